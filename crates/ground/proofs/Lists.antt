@@ -1,0 +1,190 @@
+-- Laws of runs of stores and of parts of lists that are lent, written over and put back. Assumes nothing.
+use mathlib.Core.Path.{_≡_, refl, sym, ap, _∙_}
+use mathlib.Core.List.{List, [], _∷_, _++_, append-assoc, append-nil}
+use Prim.Native.Nat.{ℕ, zero, suc, _+_, _-_, _<_, _≤_}
+use native.Mathlib.Nat.{add-zero, add-suc, suc-add}
+use native.Mathlib.Numerals.{add-one, add-two, add-three}
+use native.Mathlib.Omega.{arith}
+use lib.ListN.{length, getD, set, take, drop, length-append, length-drop, length-take, length-set, take-append-drop}
+use lib.Seq.{sets, sets-eq, getD-set-same, getD-set-other, getD-take, getD-drop, drop-cons, drop-drop, drop-length, drop-append-le, drop-append-seam, drop-at}
+use lib.Seq.{take-suc, take-suc-set, take-all, take-take, take-append-le, take-append-seam, length-take-le}
+use Rattle.ground.specs.Lists.{part, over, putAt}
+
+module _ {A : Type 0} where
+  -- An element before a run of stores stays.
+  pub getD-sets-before : (l : List A) (i : ℕ) (vs : List A) (j : ℕ) (d : A) → j < i → getD (sets l i vs) j d ≡ getD l j d
+  getD-sets-before l i [] j d h = refl
+  getD-sets-before l i (v ∷ vs) j d h =
+      getD-sets-before (set l i v) (suc i) vs j d (omega arith) ∙ getD-set-other l i j v d (omega arith)
+
+  -- An element after a run of stores stays.
+  pub getD-sets-after : (l : List A) (i : ℕ) (vs : List A) (j : ℕ) (d : A) → i + length vs ≤ j → getD (sets l i vs) j d ≡ getD l j d
+  getD-sets-after l i [] j d h = refl
+  getD-sets-after l i (v ∷ vs) j d h =
+      getD-sets-after (set l i v) (suc i) vs j d (omega arith) ∙ getD-set-other l i j v d (omega arith)
+
+  -- An element in a run of stores is the one that was stored.
+  pub getD-sets-in : (l : List A) (i : ℕ) (vs : List A) (j : ℕ) (d : A) → j < length vs → i + length vs ≤ length l → getD (sets l i vs) (i + j) d ≡ getD vs j d
+  getD-sets-in l i [] j d h k = absurd (omega arith)
+  getD-sets-in l i (v ∷ vs) zero d h k =
+      rw (add-zero i) (getD-sets-before (set l i v) (suc i) vs i d (omega arith) ∙ getD-set-same l i v d (omega arith))
+  getD-sets-in l i (v ∷ vs) (suc j) d h k =
+      rw (add-suc i j, ← suc-add i j) (getD-sets-in (set l i v) (suc i) vs j d (omega arith) (omega (arith, length-set l i v)))
+
+  -- A run of stores in two parts.
+  pub sets-append : (l : List A) (i : ℕ) (a b : List A) → sets l i (a ++ b) ≡ sets (sets l i a) (i + length a) b
+  sets-append l i [] b = ap (λ (k : ℕ). sets l k b) (sym (add-zero i))
+  sets-append l i (x ∷ a) b =
+      sets-append (set l i x) (suc i) a b ∙ ap (λ (k : ℕ). sets (sets l i (x ∷ a)) k b) (omega arith)
+
+  -- Four stores in a row are a run.
+  pub sets-four : (l : List A) (i : ℕ) (a b c e : A) → set (set (set (set l i a) (i + 1) b) (i + 2) c) (i + 3) e ≡ sets l i (a ∷ b ∷ c ∷ e ∷ [])
+  sets-four l i a b c e = rw (add-one, add-two, add-three)
+
+  -- A run of stores that fits is what the part at that place comes back as.
+  pub sets-put : (l : List A) (i : ℕ) (vs : List A) → i + length vs ≤ length l → sets l i vs ≡ putAt i vs l
+  unfolding putAt
+  sets-put l i vs h =
+      sets-eq vs l i h
+      ∙ append-assoc (take i l) vs (drop (i + length vs) l)
+      ∙ ap (λ (x : List A). take i l ++ (vs ++ x)) (sym (drop-drop (length vs) i l))
+
+  -- A turn of a run of stores: one of the rest is stored.
+  pub sets-more : (l s : List A) (at i : ℕ) (d : A) {t : List A} → i < length s → sets l (at + i) (drop i s) ≡ t
+      → sets (set l (at + i) (getD s i d)) (at + (i + 1)) (drop (i + 1) s) ≡ t
+  sets-more l s at i d h e =
+      rw (add-one i, add-suc at i) (ap (λ (x : List A). sets l (at + i) x) (sym (drop-cons s i d h)) ∙ e)
+
+  -- The end of a run of stores: no rest is left.
+  pub sets-all : (l s : List A) (at i : ℕ) {t : List A} → i ≡ length s → sets l (at + i) (drop i s) ≡ t → l ≡ t
+  sets-all l s at i h e = rw (h, drop-length s) at e
+
+  -- A part has as many elements as are asked for.
+  pub length-part : (a n : ℕ) (d : List A) → a + n ≤ length d → length (part a n d) ≡ n
+  length-part a n d h = length-take-le n (drop a d) (simp length-drop (omega arith))
+
+  -- An element of a part is the one at its place in the whole.
+  pub getD-part : (a n : ℕ) (l : List A) (j : ℕ) (d : A) → j < n → getD (part a n l) j d ≡ getD l (a + j) d
+  getD-part a n l j d h = getD-take n (drop a l) j d h ∙ getD-drop a l j d
+
+  -- What is written where p ends.
+  pub over-put : (p ys d : List A) → putAt (length p) ys (over p d) ≡ over (p ++ ys) d
+  unfolding over putAt
+  over-put p ys d =
+      rw (take-append-seam, drop-append-seam, drop-drop, length-append) (sym (append-assoc p ys (drop (length p + length ys) d)))
+
+  -- The part that was written last.
+  pub over-part : (p ys d : List A) → part (length p) (length ys) (over (p ++ ys) d) ≡ ys
+  unfolding over
+  over-part p ys d = rw (append-assoc, drop-append-seam, take-append-seam)
+
+  -- Nothing written over a list leaves it.
+  pub over-none : (d : List A) → over [] d ≡ d
+  unfolding over
+  over-none d = refl
+
+  -- Nothing written at a place leaves the list.
+  pub put-none : (a : ℕ) (d : List A) → putAt a [] d ≡ d
+  unfolding putAt
+  put-none a d = take-append-drop a d
+
+  -- A list written over keeps its length.
+  pub length-over : (p d : List A) → length p ≤ length d → length (over p d) ≡ length d
+  unfolding over
+  length-over p d h = simp (length-append, length-drop) (omega arith)
+
+  -- A list written at a place keeps its length.
+  pub length-put : (a : ℕ) (ys d : List A) → a + length ys ≤ length d → length (putAt a ys d) ≡ length d
+  unfolding putAt
+  length-put a ys d h = simp (length-append, length-drop, length-take) (omega arith)
+
+  -- A list written over all of another replaces it.
+  pub over-all : (p d : List A) → length d ≡ length p → over p d ≡ p
+  unfolding over
+  over-all p d h =
+      let e : drop (length p) d ≡ [] = rw (← h) (drop-length d) in
+      ap (λ (l : List A). p ++ l) e ∙ append-nil p
+
+  -- What is written at place 0 is written over the start.
+  pub put-first : (p d : List A) → putAt 0 p d ≡ over p d
+  unfolding putAt over
+  put-first p d = refl
+
+  -- The part from a to a + n that was lent comes back as ys.
+  pub home : (a n : ℕ) (x ys d : List A) → x ≡ ys → length ys ≡ n → take a d ++ (x ++ drop (a + n - a) (drop a d)) ≡ putAt a ys d
+  unfolding putAt
+  home a n x ys d e l =
+      let k : a + n - a ≡ length ys = omega arith in
+      rw (e, k)
+
+  -- The n elements from b on of one list written over those from a on of another.
+  pub put-part : (a b n : ℕ) (s d : List A) → b + n ≤ length s
+      → putAt a (take (b + n - b) (drop b s)) d ≡ take a d ++ (part b n s ++ drop (a + n) d)
+  unfolding putAt
+  put-part a b n s d h =
+      let k : b + n - b ≡ n = omega arith in
+      rw (k, length-part b n s h, drop-drop)
+
+  -- What is written just before what was written.
+  pub put-before : (a b : ℕ) (ys zs d : List A) → a + length ys ≡ b → b ≤ length d → putAt a ys (putAt b zs d) ≡ putAt a (ys ++ zs) d
+  unfolding putAt
+  put-before a b ys zs d e h =
+      let r : List A = drop (length zs) (drop b d) in
+      let t : take a (take b d ++ (zs ++ r)) ≡ take a d =
+      take-append-le a (take b d) (zs ++ r) (simp length-take (omega arith)) ∙ take-take a b d (omega arith) in
+      let u : drop (length ys) (drop a (take b d ++ (zs ++ r))) ≡ zs ++ r =
+      drop-drop (length ys) a (take b d ++ (zs ++ r))
+      ∙ ap (λ (k : ℕ). drop k (take b d ++ (zs ++ r))) e
+      ∙ drop-at (take b d) (zs ++ r) b (length-take-le b d h) in
+      let k : b + length zs ≡ a + length (ys ++ zs) = omega (arith, length-append ys zs) in
+      let v : r ≡ drop (length (ys ++ zs)) (drop a d) =
+      drop-drop (length zs) b d ∙ ap (λ (x : ℕ). drop x d) k ∙ sym (drop-drop (length (ys ++ zs)) a d) in
+      (λ i. t i ++ (ys ++ u i))
+      ∙ ap (λ (x : List A). take a d ++ x) (sym (append-assoc ys zs r))
+      ∙ ap (λ (x : List A). take a d ++ (ys ++ zs ++ x)) v
+
+  -- The part that was written at a place.
+  pub part-put : (a : ℕ) (ys d : List A) → a ≤ length d → part a (length ys) (putAt a ys d) ≡ ys
+  unfolding putAt
+  part-put a ys d h =
+      let r : List A = drop (length ys) (drop a d) in
+      ap (take (length ys)) (drop-at (take a d) (ys ++ r) a (length-take-le a d h)) ∙ take-append-seam ys r
+
+  -- The part of a list that ends in its first a elements is one of these.
+  inside : (b n a : ℕ) (d r : List A) → b + n ≤ a → a ≤ length d → part b n (take a d ++ r) ≡ part b n (take a d)
+  inside b n a d r h k =
+      let l : length (take a d) ≡ a = length-take-le a d k in
+      ap (take n) (drop-append-le b (take a d) r (omega arith))
+      ∙ take-append-le n (drop b (take a d)) r (simp length-drop (omega arith))
+
+  -- A part before the place that is written stays.
+  pub part-put-before : (b n a : ℕ) (ys d : List A) → b + n ≤ a → a ≤ length d → part b n (putAt a ys d) ≡ part b n d
+  unfolding putAt
+  part-put-before b n a ys d h k =
+      inside b n a d (ys ++ drop (length ys) (drop a d)) h k
+      ∙ sym (inside b n a d (drop a d) h k)
+      ∙ ap (part b n) (take-append-drop a d)
+
+  -- A part after what is written stays.
+  pub part-put-after : (b n a : ℕ) (ys d : List A) → a + length ys ≤ b → a ≤ length d → part b n (putAt a ys d) ≡ part b n d
+  unfolding putAt
+  part-put-after b n a ys d h k =
+      let r : List A = drop (length ys) (drop a d) in
+      let c : ℕ = b - (a + length ys) in
+      let e : b ≡ a + length ys + c = omega arith in
+      let cut : (l : List A) → drop b l ≡ drop c (drop (length ys) (drop a l)) =
+      λ l. ap (λ (x : ℕ). drop x l) e ∙ sym (drop-drop c (a + length ys) l) ∙ ap (drop c) (sym (drop-drop (length ys) a l)) in
+      let rest : drop (length ys) (drop a (take a d ++ (ys ++ r))) ≡ r =
+      ap (drop (length ys)) (drop-at (take a d) (ys ++ r) a (length-take-le a d k)) ∙ drop-append-seam ys r in
+      ap (take n) (cut (take a d ++ (ys ++ r)) ∙ ap (drop c) rest ∙ sym (cut d))
+
+  -- A turn of a copy.
+  pub copied : (to from : List A) (i : ℕ) (d : A) → i < length to → i < length from → take i to ≡ take i from
+      → take (i + 1) (set to i (getD from i d)) ≡ take (i + 1) from
+  copied to from i d h k e =
+      rw (add-one i)
+      (take-suc-set to i (getD from i d) h ∙ ap (λ (l : List A). l ++ (getD from i d ∷ [])) e ∙ sym (take-suc from i d k))
+
+  -- The end of a copy.
+  pub copied-all : (to from : List A) (i : ℕ) → length to ≡ length from → length from ≤ i → take i to ≡ take i from → to ≡ from
+  copied-all to from i h k e = sym (take-all i to (omega arith)) ∙ e ∙ take-all i from k

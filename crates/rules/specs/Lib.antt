@@ -1,0 +1,22 @@
+-- Document 01 as definitions. The files in its order, each with the heading that it serves. Assumes nothing.
+pub mod Types
+pub mod Words
+pub mod Memory
+pub mod Saved
+pub mod Queues
+pub mod Checksum
+pub mod Packet
+pub mod Notices
+pub mod Sending
+pub mod Slots
+pub mod Receipt
+pub mod Replies
+pub mod Registers
+pub mod Writes
+pub mod Sound
+pub mod Calls
+pub mod Station
+pub mod Layouts
+pub mod Bench
+pub mod Sample
+pub mod Opened

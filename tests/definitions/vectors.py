@@ -1,0 +1,148 @@
+"""Finds and reads the tests: station streams and raw cases of tests/vectors, and streams written by hand of tests/hand."""
+import gzip
+import struct
+from collections import namedtuple
+from pathlib import Path
+
+TESTS = Path(__file__).resolve().parent.parent
+RECORD = 192        # bytes of a record of the station program
+PACKET = 168        # bytes of packet in it
+KINDS = {'write': 1, 'read': 2, 'receive': 3, 'send': 4, 'take': 5}
+
+# A record with the line that is expected of it. `place` says where it stands: its number, or the line of a hand-made file.
+Record = namedtuple('Record', 'place data line')
+
+# A raw case: kind and two numbers, the saved state, four memories, packet and notice room; and the bytes expected after it.
+Case = namedtuple('Case', 'number kind first second saved send receive data notices packet room expected')
+
+
+class Malformed(Exception):
+    """A test file that cannot be read."""
+
+
+def all_tests():
+    """The names of all tests, with the function that reads each: quick ones first."""
+    tests = {path.stem: ('hand', path) for path in sorted((TESTS / 'hand').glob('*.txt'))}
+    for kind in ('raw', 'station'):
+        for path in sorted((TESTS / 'vectors').glob(f'{kind}-*.in.gz')):
+            tests[path.name.removesuffix('.in.gz')] = (kind, path)
+    return tests
+
+
+# ---- station streams
+
+def station_records(path):
+    """The records of a stream, each with its line. A torn last record is a record too."""
+    stream = gzip.decompress(path.read_bytes())
+    lines = path.with_name(path.name.replace('.in.gz', '.out')).read_bytes().splitlines(keepends=True)
+    records = [stream[at:at + RECORD] for at in range(0, len(stream), RECORD)]
+    if len(records) != len(lines):
+        raise Malformed(f'{path.name}: {len(records)} records, but {len(lines)} lines are expected')
+    return [Record(f'record {number}', data, line) for number, (data, line) in enumerate(zip(records, lines), 1)]
+
+
+def record_of(kind, first=0, second=0, packet=b''):
+    """A record: "kind, 3 zero bytes, two numbers of 4 bytes, length of 4, 168 bytes of packet, 8 zero"."""
+    return struct.pack('>B3xIII168s8x', kind, first, second, len(packet), packet)
+
+
+def in_words(data):
+    """A record in the words of a hand-made file."""
+    if len(data) < RECORD:
+        return f'torn {len(data)}'
+    kind, first, second, length = struct.unpack('>B3xIII', data[:16])
+    words = {
+        1: f'write 0x{first:03X} 0x{second:08X}',
+        2: f'read 0x{first:03X}',
+        3: f'receive {data[16:16 + min(length, PACKET)].hex()} (length {length})',
+        4: f'send {first}',
+        5: f'take {first}',
+    }
+    return words.get(kind, f'kind {kind}')
+
+
+# ---- streams written by hand
+
+def hand_records(path):
+    """The records of a text file: `write 0x000 0x40030007 -> done 00000000 0` and the like; # begins a comment."""
+    records = []
+    for number, text in enumerate(path.read_text(encoding='utf-8').splitlines(), 1):
+        text = text.split('#')[0].strip()
+        if not text:
+            continue
+        try:
+            if records and len(records[-1].data) < RECORD:
+                raise ValueError('only the last record can be torn')
+            written, expected = text.split(' -> ')
+            kind, data = hand_record(*written.split())
+        except (ValueError, TypeError, struct.error) as error:
+            raise Malformed(f'{path.name}:{number}: {text!r} is no record: {error}') from error
+        records.append(Record(f'line {number}', data, f'{kind} {expected.strip()}\n'.encode()))
+    return records
+
+
+def hand_record(word, *rest):
+    """The kind that is printed for a record written by hand, and the record's bytes."""
+    if word == 'torn':
+        return 0, torn_record(*rest)
+    if word == 'receive':
+        return KINDS[word], record_of(KINDS[word], packet=b''.join(hand_bytes(part) for part in rest))
+    numbers = [int(number, 0) for number in rest]
+    if word == 'kind':
+        return numbers[0], record_of(*numbers)
+    if len(numbers) != (2 if word == 'write' else 1) or word not in KINDS:
+        raise ValueError(f'{word} with {len(numbers)} numbers is not known')
+    return KINDS[word], record_of(KINDS[word], *numbers)
+
+
+def torn_record(count):
+    """The first bytes of a record that would be a read."""
+    if not 0 < int(count) < RECORD:
+        raise ValueError(f'a torn record has 1 to {RECORD - 1} bytes')
+    return record_of(KINDS['read'])[:int(count)]
+
+
+def hand_bytes(part):
+    """Bytes in hexadecimal digits, `00070000`, or some that stand there many times, `00*20`."""
+    digits, _, times = part.partition('*')
+    return bytes.fromhex(digits) * int(times or 1)
+
+
+# ---- raw cases
+
+def words(data):
+    return list(struct.unpack(f'<{len(data) // 4}I', data))
+
+
+def padded(count):
+    return count + -count % 4
+
+
+def raw_cases(path):
+    """The cases of a raw file, each with the bytes expected after it. A truncated last case is ignored, as the format says."""
+    stream = gzip.decompress(path.read_bytes())
+    answers = gzip.decompress(path.with_name(path.name.replace('.in.', '.out.')).read_bytes())
+    cases, at, answered = [], 0, 0
+    while at + 96 <= len(stream):
+        kind, first, second, *rest = words(stream[at:at + 96])
+        counts, saved = rest[:6], rest[6:]
+        sizes = [4 * counts[0], 4 * counts[1], padded(counts[2]), 4 * counts[3], padded(counts[4]), 4 * counts[5]]
+        if at + 96 + sum(sizes) > len(stream):
+            break
+        parts = parts_of(stream[at + 96:at + 96 + sum(sizes)], sizes)
+        expected = answers[answered:answered + 72 + sum(sizes)]
+        cases.append(Case(len(cases) + 1, kind, first, second, saved, words(parts[0]), words(parts[1]), list(parts[2][:counts[2]]),
+                          words(parts[3]), list(parts[4][:counts[4]]), words(parts[5]), expected))
+        at, answered = at + 96 + sum(sizes), answered + len(expected)
+    if answered != len(answers):
+        raise Malformed(f'{path.name}: the answers go on after the last case')
+    return cases
+
+
+def parts_of(data, sizes):
+    """The data cut into parts of these sizes."""
+    parts = []
+    for size in sizes:
+        parts.append(data[:size])
+        data = data[size:]
+    return parts
