@@ -1,9 +1,15 @@
 """Answers a test from the definitions, compares every byte, and says the first difference in plain words."""
 import struct
 from contextlib import contextmanager
+from itertools import zip_longest
 
 import entries
-from vectors import all_tests, hand_records, in_words, raw_cases, station_records
+from hand import Alteration, Sight, hand_steps
+from vectors import Record, all_tests, in_words, raw_cases, record_in_words, station_records
+
+# The parts of a raw answer that are no single numbers, and those of them that are bytes.
+MEMORIES = ('send RAM', 'receive RAM', 'data memory', 'notice memory', 'packet buffer', 'notice room')
+OCTETS = ('data memory', 'packet buffer')
 
 
 class Difference(Exception):
@@ -28,20 +34,54 @@ def check(definitions, name):
     kind, path = all_tests()[name]
     if kind == 'raw':
         return check_raw(definitions, raw_cases(path))
-    return check_records(definitions, hand_records(path) if kind == 'hand' else station_records(path))
+    if kind == 'station':
+        return check_steps(definitions, station_records(path))
+    steps = hand_steps(path)
+    compared = check_steps(definitions, steps)
+    if all(isinstance(step, Record) for step in steps):
+        check_whole(definitions, steps)
+    return compared
 
 
-def check_records(definitions, records):
-    """Each record in turn, on the machine that the one before it left."""
+def check_steps(definitions, steps):
+    """Each step in turn, on the machine that the one before it left."""
     machine = definitions.first_machine()
-    for record in records:
-        with answering(record.place):
-            outcome, line = answered_record(definitions, list(record.data), machine)
-        if line != record.line:
-            said, expected = (text.decode('ascii', 'replace').rstrip('\n') for text in (line, record.line))
-            raise Difference(record.place, f'{in_words(record.data)}: the definitions say "{said}", expected is "{expected}"')
-        machine = outcome.machine
-    return f'{len(records)} lines'
+    for step in steps:
+        if isinstance(step, Alteration):
+            with answering(step.place):
+                machine = entries.altered(machine, step.what, step.name, step.numbers)
+        elif isinstance(step, Sight):
+            check_sight(step, machine)
+        else:
+            machine = check_record(definitions, step, machine)
+    return f'{len(steps)} lines'
+
+
+def check_whole(definitions, records):
+    """The whole stream at once, by the definition of the station program itself: too slow for the long ones."""
+    with answering('the whole stream'):
+        said = bytes(definitions.station(list(b''.join(record.data for record in records))))
+    for record, line in zip_longest(records, said.splitlines(keepends=True)):
+        if not record or line != record.line:
+            raise Difference(record.place if record else 'the end', f'as a whole stream, the definitions say {line}')
+
+
+def check_sight(sight, machine):
+    """A word or byte that no line shows."""
+    with answering(sight.place):
+        number = getattr(machine, sight.memory)[sight.at]
+    if number != sight.expected:
+        raise Difference(sight.place, f'place {sight.at} of {sight.memory} is 0x{number:08X}, expected is 0x{sight.expected:08X}')
+
+
+def check_record(definitions, record, machine):
+    """The line of a record; the machine after it."""
+    with answering(record.place):
+        outcome, line = answered_record(definitions, list(record.data), machine)
+    if line != record.line:
+        said, expected = (text.decode('ascii', 'replace').rstrip('\n') for text in (line, record.line))
+        raise Difference(record.place, f'{record_in_words(record.data)}: the definitions say "{said}", expected is "{expected}"')
+    return outcome.machine
 
 
 def answered_record(definitions, data, machine):
@@ -58,7 +98,8 @@ def check_raw(definitions, cases):
         with answering(f'case {case.number}'):
             said = answer_parts(case, definitions.perform(call, before))
         if b''.join(data for _, data in said) != case.expected:
-            raise Difference(f'case {case.number}', f'kind {case.kind}, 0x{case.first:X}, 0x{case.second:X}: {first_part(said, case.expected)}')
+            words = in_words(case.kind, case.first, case.second, bytes(case.packet))
+            raise Difference(f'case {case.number}', f'{words}: {first_part(said, case.expected)}')
     return f'{len(cases)} cases'
 
 
@@ -69,17 +110,14 @@ def answer_parts(case, outcome):
     numbers += zip(entries.SAVED, entries.saved_numbers(machine.saved))
     packet = outcome.room if case.kind == 4 else case.packet
     room = outcome.room if case.kind == 5 else case.room
-    return [(name, word_bytes([number])) for name, number in numbers] + [
-        ('send RAM', word_bytes(machine.send)),
-        ('receive RAM', word_bytes(machine.receive)),
-        ('data memory', padded_bytes(machine.bytes)),
-        ('notice memory', word_bytes(machine.notices)),
-        ('packet room', padded_bytes(packet)),
-        ('notice room', word_bytes(room)),
-    ]
+    memories = [word_bytes(machine.send), word_bytes(machine.receive), padded_bytes(machine.bytes),
+                word_bytes(machine.notices), padded_bytes(packet), word_bytes(room)]
+    return [(name, word_bytes([number])) for name, number in numbers] + list(zip(MEMORIES, memories))
 
 
 def word_bytes(numbers):
+    if any(number >= 2 ** 32 for number in numbers):
+        raise ValueError(f'{max(numbers)} has more than 32 bits')
     return struct.pack(f'<{len(numbers)}I', *numbers)
 
 
@@ -93,21 +131,17 @@ def first_part(said, expected):
         other, expected = expected[:len(data)], expected[len(data):]
         for at in range(0, len(data), 4):
             if data[at:at + 4] != other[at:at + 4]:
-                return f'{place_in(name, data, at)} is {shown(name, data, at)}, expected is {shown(name, other, at)}'
+                return f'{place_in(name, at)} is {shown(name, data, at)}, expected is {shown(name, other, at)}'
     return 'a memory has another length than expected'
 
 
-def place_in(name, data, at):
-    if len(data) == 4:
+def place_in(name, at):
+    if name not in MEMORIES:
         return name
-    return f'byte {at} of the {name} and on' if is_octets(name) else f'word {at // 4} of the {name}'
+    return f'byte {at} of the {name} and on' if name in OCTETS else f'word {at // 4} of the {name}'
 
 
 def shown(name, data, at):
     """Four bytes of a part: bytes as they stand, a word as a number."""
     four = data[at:at + 4]
-    return four.hex(' ') if is_octets(name) or len(four) < 4 else f'0x{struct.unpack("<I", four)[0]:08X}'
-
-
-def is_octets(name):
-    return name in ('data memory', 'packet room')
+    return four.hex(' ') if name in OCTETS or len(four) < 4 else f'0x{struct.unpack("<I", four)[0]:08X}'

@@ -4,7 +4,8 @@ from dataclasses import dataclass, field
 from pathlib import Path
 
 from library import FORMS, FUNCTIONS, NATIVE
-from reading import PRECEDENCE, Apply, Name, NotKnown, Reader, items_of
+from reading import PRECEDENCE, NotKnown, Reader, items_of
+from trees import Apply, Name
 
 # The crates that are translated, and their modules that are not: lists of modules, the library's names handed on, theorems.
 CRATES = {
@@ -112,11 +113,10 @@ def read_data(declared, item):
 
 def read_operator(declared, item):
     """`infixl 50 _▸_`."""
-    kind, strength, name = (token.text for token in item.tokens)
-    sides = {'infixl': 'left', 'infixr': 'right'}
-    if kind not in sides or not re.fullmatch(r'_[^_]+_', name):
-        raise NotKnown(item.file, item.line, f'{kind} of {name}')
-    declared.precedence[name.strip('_')] = (int(strength), sides[kind])
+    parts = re.fullmatch(r'infix([lr]) (\d+) _([^_\s]+)_', ' '.join(token.text for token in item.tokens))
+    if not parts:
+        raise NotKnown(item.file, item.line, 'an operator that is not between two things, or that has no side')
+    declared.precedence[parts[3]] = (int(parts[2]), {'l': 'left', 'r': 'right'}[parts[1]])
 
 
 def read_clause(declared, module, item):
@@ -170,6 +170,7 @@ def read_crates(crates):
 
 
 def read_functions(declared, module):
+    """The signatures of a module, then its clauses; each signature has some."""
     for item in module.items:
         if kind_of(item) == 'signature':
             declared.add_function(name_of(item), module, item.line)
@@ -177,5 +178,5 @@ def read_functions(declared, module):
         if kind_of(item) == 'clause':
             read_clause(declared, module, item)
     for name, function in declared.functions.items():
-        if not function.clauses:
+        if function.module is module and not function.clauses:
             raise NotKnown(module.file, function.line, f'{name} has no clause')

@@ -1,4 +1,5 @@
 """The names by which the tests enter the definitions, and the shapes of what they hand over. A renaming there is followed here."""
+import functools
 from types import SimpleNamespace
 
 from translate import load
@@ -7,17 +8,28 @@ from translate import load
 SAVED = ('pcsr0', 'inthi', 'intlo', 'slots', 'taken', 'faulted', 'sendpointer', 'receivepointer',
          'nqr.place', 'nqr.length', 'aqr.place', 'aqr.length', 'nbqr.place', 'nbqr.length', 'lastsender')
 
+# The fields of a machine that are memories, by the names that they have in tests/hand.
+MEMORIES = {'send': 'send', 'receive': 'receive', 'data': 'bytes', 'notices': 'notices'}
+
+
+class Missing(Exception):
+    """A definition by which the tests enter is not there."""
+
 
 class Definitions:
     """The definitions, loaded from the folder of the crates."""
 
     def __init__(self, crates):
         names = load(crates)
-        self.perform = names['perform']
-        self.first_machine = names['firstMachine']
-        self.kind_of = names['kindOf']
-        self.call_of = names['callOf']
-        self.line_of = names['lineOf']
+        try:
+            self.perform = names['perform']
+            self.first_machine = names['firstMachine']
+            self.kind_of = names['kindOf']
+            self.call_of = names['callOf']
+            self.line_of = names['lineOf']
+            self.station = names['station']
+        except KeyError as name:
+            raise Missing(f'{crates} has no definition {name}') from name
 
 
 def call(kind, first, second, packet, room):
@@ -39,24 +51,33 @@ def machine(saved, send, receive, data, notices):
 
 def saved_state(numbers):
     """The saved state of its numbers in the order of SAVED."""
-    state = SimpleNamespace()
+    state = SimpleNamespace(nqr=SimpleNamespace(), aqr=SimpleNamespace(), nbqr=SimpleNamespace())
     for name, number in zip(SAVED, numbers):
-        holder = state
-        if '.' in name:
-            queue, name = name.split('.')
-            if not hasattr(state, queue):
-                setattr(state, queue, SimpleNamespace())
-            holder = getattr(state, queue)
-        setattr(holder, name, number)
+        set_number(state, name, number)
     return state
+
+
+def set_number(state, name, number):
+    *queue, last = name.split('.')
+    setattr(getattr(state, queue[0]) if queue else state, last, number)
 
 
 def saved_numbers(state):
     """The numbers of a saved state in the order of SAVED."""
-    numbers = []
-    for name in SAVED:
-        value = state
-        for part in name.split('.'):
-            value = getattr(value, part)
-        numbers.append(value)
-    return numbers
+    return [functools.reduce(getattr, name.split('.'), state) for name in SAVED]
+
+
+# ---- a machine from outside
+
+def altered(machine, what, name, numbers):
+    """Another machine, with a number or a word set, or a memory resized: what is cut off is lost, what is new is zero."""
+    if name in SAVED:
+        state = dict(zip(SAVED, saved_numbers(machine.saved)))
+        state[name] = numbers[0]
+        return SimpleNamespace(**{**vars(machine), 'saved': saved_state(state.values())})
+    memory = list(getattr(machine, name))
+    if what == 'set':
+        memory[numbers[0]] = numbers[1]
+    else:
+        memory = (memory + [0] * numbers[0])[:numbers[0]]
+    return SimpleNamespace(**{**vars(machine), name: memory})

@@ -11,9 +11,14 @@ from types import SimpleNamespace
 
 import library
 from declared import read_crates
-from reading import Apply, Infix, Lambda, Let, Name, NotKnown, Number, Project, Record, Text
+from reading import NotKnown
+from trees import Apply, Infix, Lambda, Let, Name, Number, Project, Record, Text
 
 sys.setrecursionlimit(20000)
+
+# Patterns of truths, numbers and lists: the test; and for those with an argument, what the argument stands at.
+PLAIN_PATTERNS = {'true': '{}', 'false': 'not {}', 'zero': '{} == 0', '[]': '{} == []'}
+NUMBER_PATTERNS = {'suc': ('{} > 0', '({} - 1)'), 'pos': ('{} >= 0', '{}'), 'negsuc': ('{} < 0', '(-1 - {})')}
 
 
 def load(crates):
@@ -53,12 +58,13 @@ def curried(arity, arguments, build):
     return build(arguments[:arity]) + ''.join(f'({argument})' for argument in arguments[arity:])
 
 
-def choice(function):
+def choice(declared, function):
     """The form of a function that only picks one of its arguments by a truth, or None: it must look at no more than that one."""
     branches = {}
     for patterns, body in function.clauses:
         names = [pattern.name if isinstance(pattern, Name) else None for pattern in patterns]
-        if not names or names[0] not in ('true', 'false') or not isinstance(body, Name) or body.name not in names[1:]:
+        fixed = [name for name in names[1:] if name is None or name in PLAIN_PATTERNS or name in declared.types_with]
+        if fixed or names[:1] not in (['true'], ['false']) or not isinstance(body, Name) or body.name not in names[1:]:
             return None
         branches.setdefault(names[0], names.index(body.name))
     if len(branches) != 2:
@@ -83,6 +89,7 @@ class FunctionWriter:
         return {**scope, name: f'{spelled(name)}_{self.bound}'}
 
     def written(self):
+        """The Python text of the function: its clauses are tried in their order. A constant is computed once."""
         parameters = [f'given{i}' for i in range(self.function.arity)]
         lines = [] if parameters else ['@once']
         lines.append(f'def {python_name(self.name)}({", ".join(parameters)}):')
@@ -136,10 +143,13 @@ class FunctionWriter:
             tests.append(PLAIN_PATTERNS[name].format(on))
         elif name is None or name in self.declared.types_with and name in self.function.module.names:
             self.match_constructor(tree, tree, (), on, tests, binds)
+        elif name[0].isupper():
+            self.refuse(tree, f'{name} is no variable, and no constructor that is imported by its name')
         elif name != '_':
             binds.append((name, on))
 
     def match_number(self, tree, on, tests, binds):
+        """`suc n`, `pos n`, `negsuc n`."""
         test, inner = NUMBER_PATTERNS[tree.head.name]
         if len(tree.arguments) != 1:
             self.refuse(tree, f'{tree.head.name} has one argument')
@@ -147,6 +157,7 @@ class FunctionWriter:
         self.match(tree.arguments[0], inner.format(on), tests, binds)
 
     def match_constructor(self, tree, head, arguments, on, tests, binds):
+        """A constructor with all its arguments: a row of its name and them."""
         head = Name(tree.line, head) if isinstance(head, str) else head
         constructor = self.constructor(head)
         if constructor is None or self.declared.constructors[constructor] != len(arguments):
@@ -189,6 +200,7 @@ class FunctionWriter:
         return self.call(tree, [], scope)
 
     def infix(self, tree, scope):
+        """An operator; a row of ∷ is a single list."""
         if tree.operator != '∷':
             operands = [self.value(tree.left, scope), self.value(tree.right, scope)]
             return self.call(Name(tree.line, f'_{tree.operator}_'), operands, scope)
@@ -209,24 +221,27 @@ class FunctionWriter:
         name = head.name if isinstance(head, Name) else None
         if name in scope:
             return curried(0, arguments, lambda _: scope[name])
-        if name in self.declared.functions and name not in library.NATIVE:
-            function = self.declared.functions[name]
-            form = choice(function)
-            return curried(function.arity, arguments, lambda given: form.format(*given) if form else f'{python_name(name)}({", ".join(given)})')
-        if name in library.FUNCTIONS:
-            return curried(library.FUNCTIONS[name][0], arguments, lambda given: f'{python_name(name)}({", ".join(given)})')
-        if name in library.FORMS:
-            arity, form = library.FORMS[name]
+        if name in self.declared.functions or name in library.FUNCTIONS or name in library.FORMS:
+            arity, form = self.form(name)
             return curried(arity, arguments, lambda given: form.format(*given))
         constructor = self.constructor(head)
         if constructor:
-            return curried(self.declared.constructors[constructor], arguments, lambda given: f'({", ".join([repr(constructor), *given])},)')
+            arity = self.declared.constructors[constructor]
+            return curried(arity, arguments, lambda given: f'({", ".join([repr(constructor), *given])},)')
         if name:
             self.refuse(head, f'the name {name} is not known')
         value = f'{self.value(head.of, scope)}.{field_name(head.field)}' if isinstance(head, Project) else self.value(head, scope)
         return curried(0, arguments, lambda _: value)
 
-
-# Patterns of truths, numbers and lists: the test; and for those with an argument, what the argument stands at.
-PLAIN_PATTERNS = {'true': '{}', 'false': 'not {}', 'zero': '{} == 0', '[]': '{} == []'}
-NUMBER_PATTERNS = {'suc': ('{} > 0', '({} - 1)'), 'pos': ('{} >= 0', '{}'), 'negsuc': ('{} < 0', '(-1 - {})')}
+    def form(self, name):
+        """How many arguments a function has, and the Python text of a call with places for them."""
+        if name in library.FORMS:
+            return library.FORMS[name]
+        if name in library.FUNCTIONS:
+            arity = library.FUNCTIONS[name][0]
+        else:
+            arity = self.declared.functions[name].arity
+            chosen = choice(self.declared, self.declared.functions[name])
+            if chosen:
+                return arity, chosen
+        return arity, f'{python_name(name)}({", ".join(["{}"] * arity)})'

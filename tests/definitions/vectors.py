@@ -1,4 +1,4 @@
-"""Finds and reads the tests: station streams and raw cases of tests/vectors, and streams written by hand of tests/hand."""
+"""Finds the tests, and reads the station streams and raw cases of tests/vectors; hand.py reads those of tests/hand."""
 import gzip
 import struct
 from collections import namedtuple
@@ -21,11 +21,13 @@ class Malformed(Exception):
 
 
 def all_tests():
-    """The names of all tests, with the function that reads each: quick ones first."""
-    tests = {path.stem: ('hand', path) for path in sorted((TESTS / 'hand').glob('*.txt'))}
+    """By name, the kind of each test and its file: the quick ones first."""
+    found = [(path.stem, 'hand', path) for path in sorted((TESTS / 'hand').glob('**/*.txt'))]
     for kind in ('raw', 'station'):
-        for path in sorted((TESTS / 'vectors').glob(f'{kind}-*.in.gz')):
-            tests[path.name.removesuffix('.in.gz')] = (kind, path)
+        found += [(path.name.removesuffix('.in.gz'), kind, path) for path in sorted((TESTS / 'vectors').glob(f'{kind}-*.in.gz'))]
+    tests = {name: (kind, path) for name, kind, path in found}
+    if len(tests) != len(found):
+        raise Malformed('two tests have the same name')
     return tests
 
 
@@ -46,66 +48,24 @@ def record_of(kind, first=0, second=0, packet=b''):
     return struct.pack('>B3xIII168s8x', kind, first, second, len(packet), packet)
 
 
-def in_words(data):
+def record_in_words(data):
     """A record in the words of a hand-made file."""
     if len(data) < RECORD:
         return f'torn {len(data)}'
     kind, first, second, length = struct.unpack('>B3xIII', data[:16])
+    return in_words(kind, first, second, data[16:16 + min(length, PACKET)])
+
+
+def in_words(kind, first, second, packet):
+    """A call in words."""
     words = {
         1: f'write 0x{first:03X} 0x{second:08X}',
         2: f'read 0x{first:03X}',
-        3: f'receive {data[16:16 + min(length, PACKET)].hex()} (length {length})',
+        3: f'receive {packet.hex()}',
         4: f'send {first}',
         5: f'take {first}',
     }
     return words.get(kind, f'kind {kind}')
-
-
-# ---- streams written by hand
-
-def hand_records(path):
-    """The records of a text file: `write 0x000 0x40030007 -> done 00000000 0` and the like; # begins a comment."""
-    records = []
-    for number, text in enumerate(path.read_text(encoding='utf-8').splitlines(), 1):
-        text = text.split('#')[0].strip()
-        if not text:
-            continue
-        try:
-            if records and len(records[-1].data) < RECORD:
-                raise ValueError('only the last record can be torn')
-            written, expected = text.split(' -> ')
-            kind, data = hand_record(*written.split())
-        except (ValueError, TypeError, struct.error) as error:
-            raise Malformed(f'{path.name}:{number}: {text!r} is no record: {error}') from error
-        records.append(Record(f'line {number}', data, f'{kind} {expected.strip()}\n'.encode()))
-    return records
-
-
-def hand_record(word, *rest):
-    """The kind that is printed for a record written by hand, and the record's bytes."""
-    if word == 'torn':
-        return 0, torn_record(*rest)
-    if word == 'receive':
-        return KINDS[word], record_of(KINDS[word], packet=b''.join(hand_bytes(part) for part in rest))
-    numbers = [int(number, 0) for number in rest]
-    if word == 'kind':
-        return numbers[0], record_of(*numbers)
-    if len(numbers) != (2 if word == 'write' else 1) or word not in KINDS:
-        raise ValueError(f'{word} with {len(numbers)} numbers is not known')
-    return KINDS[word], record_of(KINDS[word], *numbers)
-
-
-def torn_record(count):
-    """The first bytes of a record that would be a read."""
-    if not 0 < int(count) < RECORD:
-        raise ValueError(f'a torn record has 1 to {RECORD - 1} bytes')
-    return record_of(KINDS['read'])[:int(count)]
-
-
-def hand_bytes(part):
-    """Bytes in hexadecimal digits, `00070000`, or some that stand there many times, `00*20`."""
-    digits, _, times = part.partition('*')
-    return bytes.fromhex(digits) * int(times or 1)
 
 
 # ---- raw cases

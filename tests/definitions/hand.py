@@ -1,0 +1,80 @@
+"""Reads the streams written by hand; tests/hand/README.md says how they are written."""
+import struct
+from collections import namedtuple
+
+from entries import MEMORIES, SAVED
+from vectors import KINDS, RECORD, Malformed, Record, record_of
+
+# A change of the machine from outside: 'set' or 'resize', a number of the saved state or a memory, and numbers.
+Alteration = namedtuple('Alteration', 'place what name numbers')
+
+# A word, or a byte of data memory, that is looked at.
+Sight = namedtuple('Sight', 'place memory at expected')
+
+
+def hand_steps(path):
+    """The steps of a file: records with their lines, alterations and sights. # begins a comment."""
+    steps = []
+    for number, text in enumerate(path.read_text(encoding='utf-8').splitlines(), 1):
+        text = text.split('#')[0].strip()
+        if not text:
+            continue
+        try:
+            if steps and isinstance(steps[-1], Record) and len(steps[-1].data) < RECORD:
+                raise ValueError('only the last record can be torn')
+            steps.append(step_of(f'line {number}', text))
+        except (KeyError, ValueError, TypeError, struct.error) as error:
+            raise Malformed(f'{path.name}:{number}: {text!r} is no step: {error}') from error
+    return steps
+
+
+def step_of(place, text):
+    """A step of its text: what stands before `->`, and what is expected after it."""
+    written, _, expected = text.partition('->')
+    word, *rest = written.split()
+    if bool(expected) == (word in ('set', 'resize')):
+        raise ValueError('records and sights have an answer after ->, alterations have none')
+    if word in ('set', 'resize'):
+        return alteration(place, word, *rest)
+    if word == 'see':
+        name, at = rest
+        return Sight(place, MEMORIES[name], int(at, 0), int(expected, 16))
+    kind, data = record_by_hand(word, *rest)
+    return Record(place, data, f'{kind} {expected.strip()}\n'.encode())
+
+
+def alteration(place, what, name, *numbers):
+    """`set NAME NUMBER` of the saved state, `set MEMORY PLACE NUMBER`, `resize MEMORY COUNT`."""
+    numbers = [int(number, 0) for number in numbers]
+    if what == 'set' and name in SAVED and len(numbers) == 1:
+        return Alteration(place, what, name, numbers)
+    if len(numbers) != {'set': 2, 'resize': 1}[what]:
+        raise ValueError(f'{what} {name} with {len(numbers)} numbers is not known')
+    return Alteration(place, what, MEMORIES[name], numbers)
+
+
+def record_by_hand(word, *rest):
+    """The kind that is printed for a record written by hand, and the record's bytes."""
+    if word == 'torn':
+        return 0, torn_record(*rest)
+    if word == 'receive':
+        return KINDS[word], record_of(KINDS[word], packet=b''.join(bytes_by_hand(part) for part in rest))
+    numbers = [int(number, 0) for number in rest]
+    if word == 'kind':
+        return numbers[0], record_of(*numbers)
+    if len(numbers) != (2 if word == 'write' else 1) or word not in KINDS:
+        raise ValueError(f'{word} with {len(numbers)} numbers is not known')
+    return KINDS[word], record_of(KINDS[word], *numbers)
+
+
+def torn_record(count):
+    """The first bytes of a record that would be a read."""
+    if not 0 < int(count) < RECORD:
+        raise ValueError(f'a torn record has 1 to {RECORD - 1} bytes')
+    return record_of(KINDS['read'])[:int(count)]
+
+
+def bytes_by_hand(part):
+    """Bytes in hexadecimal digits, `00070000`, or some that stand there many times, `00*20`."""
+    digits, _, times = part.partition('*')
+    return bytes.fromhex(digits) * int(times or 1)
