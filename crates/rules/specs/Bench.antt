@@ -1,18 +1,17 @@
--- "Bench set: Proved in a single table": every row is asked of the calls, the table of receipt, or the checks themselves. Assumes nothing.
+-- "Bench set", "Proved in a single table": each row is asked of whole calls, of the words, or of the check. Assumes nothing.
 use mathlib.Core.Path.{_≡_}
 use Rattle.ground.specs.Bytes.{toBytes}
-use Rattle.ground.specs.Lists.{part}
 use Rattle.ground.specs.Signed.{signed}
 use Rattle.ground.specs.Text.{ascii}
-use Rattle.rules.specs.Types.{ℕ, _+_, Bool, true, false, List, [], _∷_, length, getD, sets, take, replicate, ℤ, pos, negsuc, Queue, Saved, Receipt}
-use Rattle.rules.specs.Words.{isDirectIo, isControlPkt, notifies, goes, metaFlag, msgSize}
-use Rattle.rules.specs.Memory.{Machine, machine, descriptor, descriptorFirst, slot, slotFirst, noMetadata}
-use Rattle.rules.specs.Saved.{withSlots, withLastSender, resetSaved}
+use Rattle.rules.specs.Types.{ℕ, _+_, true, false, List, [], _∷_, length, getD, sets, take, replicate, ℤ, pos, negsuc, Saved}
+use Rattle.rules.specs.Words.{isDirectIo, isControlPkt, notifies, goes, metaFlag, metaCount, msgSize}
+use Rattle.rules.specs.Memory.{Machine, machine, slot, slotFirst, list, headWord, nbqrFrom, noMetadata, block, blockFirst}
+use Rattle.rules.specs.Saved.{withSlots, withNbqr, withLastSender, resetSaved}
 use Rattle.rules.specs.Checksum.{checkOf}
 use Rattle.rules.specs.Packet.{form, payloadOf}
 use Rattle.rules.specs.Slots.{slotAt}
 use Rattle.rules.specs.Replies.{Outcome}
-use Rattle.rules.specs.Calls.{Call, writes, reads, receives, sends, takes, perform, receipt}
+use Rattle.rules.specs.Calls.{writes, reads, receives, sends, perform}
 
 -- ---- the sender, node 7 of incarnation 3, with 300 bytes
 
@@ -21,36 +20,22 @@ abbrev goWord : ℕ
 goWord = 0x3000012C
 
 -- A descriptor's words 0 to 6 before go: to node 9, slot 5, with use_msg_size and incarnation 3, list 0, from address 0 on.
-abbrev ready : List ℕ
-ready = 0 ∷ 0x00090000 ∷ 0x00050000 ∷ 0x83000000 ∷ 0 ∷ 0 ∷ 0x20000000 ∷ []
+abbrev beforeGo : List ℕ
+beforeGo = 0 ∷ 0x00090000 ∷ 0x00050000 ∷ 0x83000000 ∷ 0 ∷ 0 ∷ 0x20000000 ∷ []
 
--- Two waiting blocks, 64 and 96, list 0 with the head 32.
+-- List 0 has the head 32, and the blocks 64 and 96 wait: in Receive RAM.
 abbrev blocks : List ℕ → List ℕ
-blocks receive = sets (sets receive 1024 (32 ∷ [])) 1664 (64 ∷ 96 ∷ [])
+blocks receive = sets (sets receive (headWord (list 0)) (32 ∷ [])) nbqrFrom (64 ∷ 96 ∷ [])
 
--- Those two as NBQR.
+-- And in NBQR.
 abbrev twoWaiting : Saved → Saved
-twoWaiting s =
-    record {
-      pcsr0 = s .pcsr0;
-      inthi = 0;
-      intlo = 0;
-      slots = s .slots;
-      taken = 0;
-      faulted = 0;
-      sendpointer = 0;
-      receivepointer = 0;
-      nqr = s .nqr;
-      aqr = s .aqr;
-      nbqr = record { place = 0; length = 2 };
-      lastsender = s .lastsender;
-    }
+twoWaiting s = withNbqr (record { place = 0; length = 2 }) s
 
 -- Node 7 after go was written to descriptor 0.
 abbrev sender : Machine
 sender =
     perform (writes 0x114 goWord)
-    (machine (twoWaiting (resetSaved 0x40030007)) (sets (replicate 1024 0) 0 ready) (blocks (replicate 2048 0)) (replicate 300 1) (replicate 32 0)) .machine
+    (machine (twoWaiting (resetSaved 0x40030007)) (sets (replicate 1024 0) 0 beforeGo) (blocks (replicate 2048 0)) (replicate 300 1) (replicate 32 0)) .machine
 
 -- A send into a room of zeros.
 abbrev sending : Machine → Outcome
@@ -73,7 +58,7 @@ packet m = take (sending m .value) (sending m .room)
 abbrev receiver : ℕ → ℕ → ℕ → Machine
 receiver slots size word2 =
     machine (withSlots slots (twoWaiting (resetSaved 0x40030009))) (replicate 1024 0)
-    (blocks (sets (replicate 2048 0) 80 (0 ∷ size ∷ word2 ∷ [])))
+    (blocks (sets (replicate 2048 0) (slotFirst (slot 5)) (0 ∷ size ∷ word2 ∷ [])))
     (replicate 300 0) (replicate 32 0)
 
 -- The machine after the packet.
@@ -85,22 +70,24 @@ abbrev bytesToGo : Machine → ℤ
 bytesToGo m = signed (slotAt (m .receive) (slot 5) .bytestogo)
 
 -- The three packets arriving last to first.
-abbrev third : Machine
-third = receiving (packet sentTwice) (receiver 64 300 0x0000A000)
+abbrev afterThird : Machine
+afterThird = receiving (packet sentTwice) (receiver 64 300 0x0000A000)
 
-abbrev second : Machine
-second = receiving (packet sentOnce) third
+abbrev afterSecond : Machine
+afterSecond = receiving (packet sentOnce) afterThird
 
-abbrev first : Machine
-first = receiving (packet sender) second
+abbrev afterFirst : Machine
+afterFirst = receiving (packet sender) afterSecond
 
 -- A packet to slot 5 at an offset, with n bytes.
 abbrev aimed : ℕ → ℕ → List ℕ
 aimed offset n = form (record { address0 = 0x00090000; address1 = 0x00050070; control0 = 0x03000000 + offset; control1 = 0 }) noMetadata (replicate n 0)
 
--- What the table says of it, for a buffer of 256 bytes.
-abbrev verdict : ℕ → ℕ → Receipt
-verdict offset n = receipt (receiver 64 256 0x00008000) (aimed offset n)
+-- The reply and its value, for a buffer of 256 bytes.
+abbrev answer : ℕ → ℕ → List ℕ
+answer offset n =
+    let o = perform (receives (aimed offset n)) (receiver 64 256 0x00008000) in
+    o .reply ∷ o .value ∷ []
 
 -- ---- three senders
 
@@ -133,22 +120,22 @@ pub record Bench : Type 0 where
   pub after-reset : perform (reads 0x004) (perform (writes 0x000 0x80000000) sender .machine) .value ≡ 0x98040000
   -- "control1 for notify, go, 300 bytes 0x3000012C"
   pub control1-flags : isDirectIo goWord ∷ isControlPkt goWord ∷ notifies goWord ∷ goes goWord ∷ metaFlag goWord ∷ [] ≡ false ∷ false ∷ true ∷ true ∷ false ∷ []
-  pub control1-size : msgSize goWord ≡ 300
+  pub control1-numbers : metaCount goWord ∷ msgSize goWord ∷ [] ≡ 0 ∷ 300 ∷ []
   -- "its payloads 128, 128, 44": of the packets sent
   pub payloads : length (payloadOf (packet sender)) ∷ length (payloadOf (packet sentOnce)) ∷ length (payloadOf (packet sentTwice)) ∷ [] ≡ 128 ∷ 128 ∷ 44 ∷ []
   -- "arriving last to first, bytes_to_go -44, -172, 0"
-  pub to-go : bytesToGo third ∷ bytesToGo second ∷ bytesToGo first ∷ [] ≡ negsuc 43 ∷ negsuc 171 ∷ pos 0 ∷ []
+  pub to-go : bytesToGo afterThird ∷ bytesToGo afterSecond ∷ bytesToGo afterFirst ∷ [] ≡ negsuc 43 ∷ negsuc 171 ∷ pos 0 ∷ []
   -- "node 7 to node 9 slot 5, first words 0x00090000, 0x00050070, 0x83000000 (use_msg_size, incarnation 3), 0x0000012C"
   pub first-words : take 16 (packet sender) ≡ toBytes (0x00090000 ∷ 0x00050070 ∷ 0x83000000 ∷ 0x0000012C ∷ [])
   -- "buffer 256: offset 256 empty taken, 257 is 0x1000, 128 with 128 bytes taken, 132 with 128 is 0x0800"
-  pub empty-at-256 : verdict 256 0 ≡ Receipt.Lands (slot 5)
-  pub empty-at-257 : verdict 257 0 ≡ Receipt.Fails 0x1000
-  pub full-at-128 : verdict 128 128 ≡ Receipt.Lands (slot 5)
-  pub full-at-132 : verdict 132 128 ≡ Receipt.Fails 0x0800
+  pub empty-at-256 : answer 256 0 ≡ 0 ∷ 0 ∷ []
+  pub empty-at-257 : answer 257 0 ≡ 9 ∷ 0x1000 ∷ []
+  pub full-at-128 : answer 128 128 ≡ 0 ∷ 0 ∷ []
+  pub full-at-132 : answer 132 128 ≡ 9 ∷ 0x0800 ∷ []
   -- "slot 5 range fault 0x00054000": word 0 of the notice that is posted where the count is 5
-  pub range-fault : getD (receiving (aimed 0 0) (receiver 5 256 0x00008000) .notices) 8 0 ≡ 0x00054000
+  pub range-fault : getD (receiving (aimed 0 0) (receiver 5 256 0x00008000) .notices) (blockFirst (block 32)) 0 ≡ 0x00054000
   -- "AQR 0x80000005": read once the message is complete
-  pub aqr : perform (reads 0x018) first .value ≡ 0x80000005
+  pub aqr : perform (reads 0x018) afterFirst .value ≡ 0x80000005
   -- "active 0, 1, 3 after sender 1: 3, 0, 1"
   pub turns : turn1 .saved .lastsender ∷ turn2 .saved .lastsender ∷ turn3 .saved .lastsender ∷ [] ≡ 3 ∷ 0 ∷ 1 ∷ []
   -- "The check of ASCII 123456789 is 0x29B1"

@@ -1,8 +1,8 @@
--- The five calls and the unknown one: each is judged, in the order of the reply table, and then acts. Assumes nothing.
+-- The five calls and the unknown one: each is judged, refusals in the order of the reply table ("Order as listed"), and then acts. Assumes nothing.
 use Rattle.ground.specs.Choice.{pick, need}
 use Rattle.ground.specs.Lists.{part, over}
 use Rattle.rules.specs.Types.{ℕ, Bool, not, _&&_, _||_, List, [], eqb, ltb, leb, length, getD}
-use Rattle.rules.specs.Types.{ListIndex, BlockAddress, DescriptorIndex, Refusal, Sizes, Unsound, NoRegister, BadValue, Off, Short, NoPacket, Empty, Full, Quiet, Stalled, Fabric}
+use Rattle.rules.specs.Types.{BlockAddress, DescriptorIndex, Refusal, Sizes, Unsound, NoRegister, BadValue, Off, Short, NoPacket, Empty, Full, Quiet, Stalled, Fabric}
 use Rattle.rules.specs.Types.{Reply, Mapped, Reach, Shown, Writing, Receipt, Receiving, Found, Sending, Taking}
 use Rattle.rules.specs.Memory.{Machine, withSaved, withSend, withReceive, lists, list, block, blockSize, blockFirst, isBlock, nextOf}
 use Rattle.rules.specs.Saved.{withLastSender, resets, enables, ownNode}
@@ -12,11 +12,13 @@ use Rattle.rules.specs.Writes.{judgeReached, numberSet, sendStored, rece
 use Rattle.rules.specs.Sending.{descriptorAt, storeDescriptor, sendPosting, nextSender, noneActive, nextPacket, afterPacket, markStalled}
 use Rattle.rules.specs.Packet.{packetMost, isPacket, packetOf}
 use Rattle.rules.specs.Receipt.{receiptOf, hasRoomFor, received}
-use Rattle.rules.specs.Notices.{Effect, silently, onBoard, placeOf, pushNbqr, postAll, takeBlock}
+use Rattle.rules.specs.Board.{Effect, silently, onBoard}
+use Rattle.rules.specs.Notices.{placeOf, pushNbqr, postAll, takeBlock}
 use Rattle.rules.specs.Sound.{isSized, isSound}
 use Rattle.rules.specs.Replies.{Outcome, outcome, refused}
 
--- The first two rows of every call, sizes and unsound; `refuse` says a refusal in the call's own verdict.
+-- The rows sizes and unsound, which stand before every call's own (a write has them with its exception); `refuse` says a refusal in the
+-- call's verdict.
 unfoldable pub gate : {A : Type 0} → (Refusal → A) → Machine → A → A
 gate refuse m rest = need (isSized m) (refuse Sizes) (need (isSound m) (refuse Unsound) rest)
 
@@ -90,7 +92,7 @@ judgeReceive m packet =
     (need (enables (m .saved .pcsr0)) (Receiving.No Off)
     (need (isPacket packet) (Receiving.No NoPacket)
     (need (hasRoomFor (m .saved) (m .receive) (packetOf packet) (receipt m packet)) (Receiving.No Stalled)
-    (Receiving.Takes (receipt m packet)))))
+    (Receiving.ComesTo (receipt m packet)))))
 
 -- fault: "fault notice posted"; the value is "a fault's status".
 abbrev pub receiptReply : Receipt → Reply
@@ -101,7 +103,7 @@ receiptReply (Receipt.Lands i) = Reply.Done 0
 -- By what it does.
 unfoldable pub actReceive : Machine → List ℕ → Receiving → Outcome
 actReceive m packet (Receiving.No why) = refused why m []
-actReceive m packet (Receiving.Takes r) = outcome (receiptReply r) (received packet r m) []
+actReceive m packet (Receiving.ComesTo r) = outcome (receiptReply r) (received packet r m) []
 
 -- A receipt of a packet.
 unfoldable pub receiveCall : Machine → List ℕ → Outcome

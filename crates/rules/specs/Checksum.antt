@@ -7,8 +7,8 @@ abbrev pub polynomial : ℕ
 polynomial = 0x1021
 
 -- "start 0xFFFF".
-abbrev pub start : ℕ
-start = 0xFFFF
+abbrev pub checkStart : ℕ
+checkStart = 0xFFFF
 
 -- One bit: a shift to the left within 16 bits; where the top bit was set, the exclusive-or with the polynomial.
 unfoldable pub bitStep : ℕ → ℕ
@@ -29,4 +29,4 @@ checkFrom c bytes = foldl byteStep c bytes
 
 -- The check of some bytes.
 abbrev pub checkOf : List ℕ → ℕ
-checkOf bytes = checkFrom start bytes
+checkOf bytes = checkFrom checkStart bytes

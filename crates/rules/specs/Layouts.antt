@@ -1,40 +1,48 @@
--- The words of document 01 by the widths that it gives, top field first: what is read of a word elsewhere stands where these widths put
--- it, and a word that is made elsewhere is packed so. Assumes nothing.
+-- The words of document 01 by the widths that it gives, top field first: what the other files read of each stands where these widths put it,
+-- and what they make or change is packed so. Assumes nothing.
 use mathlib.Core.Path.{_≡_}
 use Rattle.ground.specs.Field.{field, bit, pack, unpack}
-use Rattle.rules.specs.Types.{ℕ, Bool, not, [], _∷_, Saved, SlotIndex, Metadata}
-use Rattle.rules.specs.Words.{dstNode, dstSlot, noteIndex, srcNode, slotAndSource, usesMsgSize, usesMsgOffset, isAckPkt, reservedBit, incarnation, offset, isDirectIo, isControlPkt, notifies, goes, metaFlag, metaCount, msgSize, metaPart}
-use Rattle.rules.specs.Saved.{resets, enables, ownIncarnation, ownNode}
+use Rattle.rules.specs.Types.{ℕ, _+_, Bool, not, List, [], _∷_, Saved, SlotIndex, Metadata, Descriptor}
+use Rattle.rules.specs.Words.{dstNode, dstSlot, noteIndex, srcNode, zeroLow, slotAndSource, usesMsgSize, usesMsgOffset, isAckPkt, reservedBit, incarnation, offset, isDirectIo, isControlPkt, notifies, goes, zeroTop, metaFlag, metaCount, msgSize, metaPart}
+use Rattle.rules.specs.Saved.{resets, enables, reservedBits, ownIncarnation, ownNode}
 use Rattle.rules.specs.Queues.{isEmpty, hasRoom}
-use Rattle.rules.specs.Registers.{pcsr1}
-use Rattle.rules.specs.Sending.{isDone}
-use Rattle.rules.specs.Slots.{slotNoteIndex, isValid, isIndirect, doesAcks, slotNotifies, slotReserve, ackNoteIndex}
+use Rattle.rules.specs.Registers.{pcsr1, intHi, intLo}
+use Rattle.rules.specs.Sending.{isDone, withStalled, withoutStalled, withDone, withoutStalledAndDone, nextHeader}
+use Rattle.rules.specs.Checksum.{checkOf}
+use Rattle.rules.specs.Packet.{checkWord}
+use Rattle.rules.specs.Slots.{slotNoteIndex, validBit, indirectBit, doesAcks, slotNotifies, slotReserve, ackNoteIndex}
 use Rattle.rules.specs.Notices.{token, enqueues, message, fault}
 
 pub record Layouts : Type 0 where
   -- "PCSR0: reset 1, enable 1, reserved 10, incarnation 4, node 16"
-  pub word-pcsr0 : (w : ℕ) → unpack (1 ∷ 1 ∷ 10 ∷ 4 ∷ 16 ∷ []) w ≡ bit (resets w) ∷ bit (enables w) ∷ field 20 10 w ∷ ownIncarnation w ∷ ownNode w ∷ []
+  pub word-pcsr0 : (w : ℕ) → unpack (1 ∷ 1 ∷ 10 ∷ 4 ∷ 16 ∷ []) w ≡ bit (resets w) ∷ bit (enables w) ∷ reservedBits w ∷ ownIncarnation w ∷ ownNode w ∷ []
   -- "PCSR1: ready (1), int_hi, int_lo, idle (1), nbqr_empty, nbqr_full, 6 zero, 4 bits holding 4, 16 zero"
   pub word-pcsr1 : (s : Saved) → pcsr1 s ≡ pack (1 ∷ 1 ∷ 1 ∷ 1 ∷ 1 ∷ 1 ∷ 6 ∷ 4 ∷ 16 ∷ []) (1 ∷ s .inthi ∷ s .intlo ∷ 1 ∷ bit (isEmpty (s .nbqr)) ∷ bit (not (hasRoom (s .nbqr))) ∷ 0 ∷ 4 ∷ 0 ∷ [])
+  pub word-pcsr1-written : (w : ℕ) → unpack (1 ∷ 1 ∷ 1 ∷ 29 ∷ []) w ≡ field 31 1 w ∷ bit (intHi w) ∷ bit (intLo w) ∷ field 0 29 w ∷ []
   -- "fab 4, dst_node 12, fab 16"
   pub address0 : (w : ℕ) → unpack (4 ∷ 12 ∷ 16 ∷ []) w ≡ field 28 4 w ∷ dstNode w ∷ field 0 16 w ∷ []
   -- "dst_slot 16, note_index 16", of a descriptor
   pub address1 : (w : ℕ) → unpack (16 ∷ 16 ∷ []) w ≡ dstSlot w ∷ noteIndex w ∷ []
   -- "1 is dst_slot 16, src_node 12, zero 4", of a packet
-  pub word1 : (w : ℕ) → unpack (16 ∷ 12 ∷ 4 ∷ []) w ≡ dstSlot w ∷ srcNode w ∷ field 0 4 w ∷ []
+  pub word1 : (w : ℕ) → unpack (16 ∷ 12 ∷ 4 ∷ []) w ≡ dstSlot w ∷ srcNode w ∷ zeroLow w ∷ []
   pub word1-made : (slot node : ℕ) → slotAndSource slot node ≡ pack (16 ∷ 12 ∷ 4 ∷ []) (slot ∷ node ∷ 0 ∷ [])
   -- "control0 (use_msg_size, use_msg_offset, ack_pkt, reserved, incarnation 4, offset 24)"
   pub control0 : (w : ℕ) → unpack (1 ∷ 1 ∷ 1 ∷ 1 ∷ 4 ∷ 24 ∷ []) w ≡ bit (usesMsgSize w) ∷ bit (usesMsgOffset w) ∷ bit (isAckPkt w) ∷ reservedBit w ∷ incarnation w ∷ offset w ∷ []
   -- "control1 (direct_io, control_pkt, notify, go, meta_data, meta_cnt 3, msg_size 24)"
   pub control1 : (w : ℕ) → unpack (1 ∷ 1 ∷ 1 ∷ 1 ∷ 1 ∷ 3 ∷ 24 ∷ []) w ≡ bit (isDirectIo w) ∷ bit (isControlPkt w) ∷ bit (notifies w) ∷ bit (goes w) ∷ bit (metaFlag w) ∷ metaCount w ∷ msgSize w ∷ []
   -- "3 is zero 4, meta flag 1, meta_len 3, msg_size 24"
-  pub word3 : (w : ℕ) → unpack (4 ∷ 1 ∷ 3 ∷ 24 ∷ []) w ≡ field 28 4 w ∷ bit (metaFlag w) ∷ metaCount w ∷ msgSize w ∷ []
-  -- "4 is header check 16, zero 16"
-  pub word4 : (w : ℕ) → unpack (16 ∷ 16 ∷ []) w ≡ field 16 16 w ∷ field 0 16 w ∷ []
-  -- "status2 (busy, stalled, done)"
+  pub word3 : (w : ℕ) → unpack (4 ∷ 1 ∷ 3 ∷ 24 ∷ []) w ≡ zeroTop w ∷ bit (metaFlag w) ∷ metaCount w ∷ msgSize w ∷ []
+  pub word3-made : (node : ℕ) (d : Descriptor) → nextHeader node d .control1 ≡ pack (4 ∷ 1 ∷ 3 ∷ 24 ∷ []) (0 ∷ bit (metaFlag (d .control1)) ∷ metaCount (d .control1) ∷ msgSize (d .control1) ∷ [])
+  -- "4 is header check 16, zero 16"; "body check 16 and zero 16"
+  pub word4-made : (covered : List ℕ) → checkWord covered ≡ pack (16 ∷ 16 ∷ []) (checkOf covered ∷ 0 ∷ [])
+  -- "status2 (busy, stalled, done)"; what is set or cleared leaves the rest, busy too
   pub status2 : (w : ℕ) → unpack (1 ∷ 1 ∷ 1 ∷ 29 ∷ []) w ≡ field 31 1 w ∷ field 30 1 w ∷ bit (isDone w) ∷ field 0 29 w ∷ []
+  pub stalled-set : (w : ℕ) → unpack (1 ∷ 1 ∷ 30 ∷ []) (withStalled w) ≡ field 31 1 w ∷ 1 ∷ field 0 30 w ∷ []
+  pub stalled-cleared : (w : ℕ) → unpack (1 ∷ 1 ∷ 30 ∷ []) (withoutStalled w) ≡ field 31 1 w ∷ 0 ∷ field 0 30 w ∷ []
+  pub done-set : (w : ℕ) → unpack (2 ∷ 1 ∷ 29 ∷ []) (withDone w) ≡ field 30 2 w ∷ 1 ∷ field 0 29 w ∷ []
+  pub both-cleared : (w : ℕ) → unpack (1 ∷ 2 ∷ 29 ∷ []) (withoutStalledAndDone w) ≡ field 31 1 w ∷ 0 ∷ field 0 29 w ∷ []
   -- "note_index 16, valid, indirect, do_acks, notify, reserve 12"
-  pub slot-word2 : (w : ℕ) → unpack (16 ∷ 1 ∷ 1 ∷ 1 ∷ 1 ∷ 12 ∷ []) w ≡ slotNoteIndex w ∷ bit (isValid w) ∷ bit (isIndirect w) ∷ bit (doesAcks w) ∷ bit (slotNotifies w) ∷ slotReserve w ∷ []
+  pub slot-word2 : (w : ℕ) → unpack (16 ∷ 1 ∷ 1 ∷ 1 ∷ 1 ∷ 12 ∷ []) w ≡ slotNoteIndex w ∷ bit (validBit w) ∷ bit (indirectBit w) ∷ bit (doesAcks w) ∷ bit (slotNotifies w) ∷ slotReserve w ∷ []
   -- "ack_note_index 16, unused 16"
   pub slot-word6 : (w : ℕ) → unpack (16 ∷ 16 ∷ []) w ≡ ackNoteIndex w ∷ field 0 16 w ∷ []
   -- "meta flag and length as in packet word 3", and nothing else
@@ -44,6 +52,8 @@ pub record Layouts : Type 0 where
   -- "word 0 slot 16, src_node 12, zero 4; word 1 zero 2, ack 1, zero 1, incarnation 4, offset 24"
   pub message-word0 : (i : SlotIndex) (source : ℕ) (ack : Bool) (inc off w : ℕ) (m : Metadata) → message i source ack inc off w m .word0 ≡ pack (16 ∷ 12 ∷ 4 ∷ []) (i .0 ∷ source ∷ 0 ∷ [])
   pub message-word1 : (i : SlotIndex) (source : ℕ) (ack : Bool) (inc off w : ℕ) (m : Metadata) → message i source ack inc off w m .word1 ≡ pack (2 ∷ 1 ∷ 1 ∷ 4 ∷ 24 ∷ []) (0 ∷ bit ack ∷ 0 ∷ inc ∷ off ∷ [])
+  -- "word 2 as packet word 3", of a slot's word 7 and its msg_size
+  pub message-word2 : (w size : ℕ) → metaPart w + size ≡ pack (4 ∷ 1 ∷ 3 ∷ 24 ∷ []) (0 ∷ bit (metaFlag w) ∷ metaCount w ∷ size ∷ [])
   -- "slot 16, status 16; 0; dst_node 16, src_node 16"
   pub fault-word0 : (slot status node source : ℕ) → fault slot status node source .word0 ≡ pack (16 ∷ 16 ∷ []) (slot ∷ status ∷ [])
   pub fault-word2 : (slot status node source : ℕ) → fault slot status node source .word2 ≡ pack (16 ∷ 16 ∷ []) (node ∷ source ∷ [])

@@ -1,7 +1,7 @@
 -- "Memories and numbers": the memories' sizes, where their words stand, what each word is, and block addresses. Assumes nothing.
 use Rattle.ground.specs.Choice.{pick}
 use Rattle.rules.specs.Types.{ℕ, _+_, _-_, _*_, _/_, _%_, Bool, _&&_, _||_, List, [], _∷_, eqb, ltb, leb, length, getD}
-use Rattle.rules.specs.Types.{Saved, SlotIndex, ListIndex, BlockAddress, DescriptorIndex, Metadata, SendPlace, ReceivePlace}
+use Rattle.rules.specs.Types.{Saved, SlotIndex, ListIndex, BlockAddress, DescriptorIndex, Metadata, SendPart, ReceivePart}
 
 -- ---- the machine: the saved state and the four lent memories
 
@@ -95,9 +95,9 @@ abbrev pub directTo : ℕ
 directTo = 4 * sendSize
 
 -- What word i of Send RAM is.
-unfoldable pub sendPlace : ℕ → SendPlace
-sendPlace i =
-    pick (ltb i (descriptors * descriptorSize)) (SendPlace.OfDescriptor (descriptor (i / descriptorSize)) (i % descriptorSize)) (SendPlace.Direct i)
+unfoldable pub sendPart : ℕ → SendPart
+sendPart i =
+    pick (ltb i (descriptors * descriptorSize)) (SendPart.OfDescriptor (descriptor (i / descriptorSize)) (i % descriptorSize)) (SendPart.Direct i)
 
 -- ---- Receive RAM
 
@@ -157,7 +157,7 @@ aqrFrom = nqrFrom + queueSize
 abbrev pub nbqrFrom : ℕ
 nbqrFrom = aqrFrom + queueSize
 
--- "from 1920 a reader's place per list (H); the rest zero".
+-- "from 1920 a reader's place per list (H)".
 abbrev pub placesFrom : ℕ
 placesFrom = 1920
 
@@ -165,12 +165,12 @@ placesFrom = 1920
 abbrev pub placeWord : ListIndex → ℕ
 placeWord l = placesFrom + l .0
 
--- What word i of Receive RAM is: no write reaches "queues, reader's places and the rest".
-unfoldable pub receivePlace : ℕ → ReceivePlace
-receivePlace i =
-    pick (ltb i listsFrom) (ReceivePlace.OfSlot (slot (i / slotSize)) (i % slotSize))
-    (pick (leb nqrFrom i) ReceivePlace.Fixed
-    (pick (eqb (i % 2) 0) (ReceivePlace.Head (list ((i - listsFrom) / 2))) (ReceivePlace.Token (list ((i - listsFrom) / 2)))))
+-- What word i of Receive RAM is; no write is addressed to "queues, reader's places and the rest".
+unfoldable pub receivePart : ℕ → ReceivePart
+receivePart i =
+    pick (ltb i listsFrom) (ReceivePart.OfSlot (slot (i / slotSize)) (i % slotSize))
+    (pick (leb nqrFrom i) ReceivePart.Fixed
+    (pick (eqb (i % 2) 0) (ReceivePart.Head (list ((i - listsFrom) / 2))) (ReceivePart.Token (list ((i - listsFrom) / 2)))))
 
 -- ---- metadata
 
@@ -208,9 +208,13 @@ blockFirst b = b .0 / 4
 abbrev pub blockWord : BlockAddress → ℕ → ℕ
 blockWord b k = blockFirst b + k
 
--- A block's next, its word 3.
+-- Where its next stands, word 3.
+abbrev pub nextWord : BlockAddress → ℕ
+nextWord b = blockWord b 3
+
+-- A block's next.
 abbrev pub nextOf : List ℕ → BlockAddress → ℕ
-nextOf notices b = getD notices (blockWord b 3) 0
+nextOf notices b = getD notices (nextWord b) 0
 
 -- "a block address whose next word is 0": what NBQR takes, and a head that is 0.
 unfoldable pub isFreeBlock : List ℕ → ℕ → Bool

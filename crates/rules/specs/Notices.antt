@@ -1,11 +1,12 @@
 -- "Notices and interrupts": what a notice says, when it can be posted, the one posting, and the take. Assumes nothing.
 use Rattle.ground.specs.Choice.{pick}
 use Rattle.ground.specs.Field.{field, flag, bit}
-use Rattle.rules.specs.Types.{ℕ, _+_, _*_, _^_, Bool, true, not, _&&_, _||_, List, [], _∷_, eqb, getD, set, sets}
+use Rattle.rules.specs.Types.{ℕ, _+_, _*_, _^_, Bool, true, not, _&&_, _||_, List, _∷_, eqb, getD, set, sets}
 use Rattle.rules.specs.Types.{Queue, Saved, SlotIndex, ListIndex, BlockAddress, Metadata, Notice, Posting}
 use Rattle.rules.specs.Words.{slotAndSource}
-use Rattle.rules.specs.Memory.{Machine, machine, list, block, headWord, tokenWord, placeWord, nqrFrom, aqrFrom, nbqrFrom, noMetadata, metadataWords, blockFirst, blockWord}
+use Rattle.rules.specs.Memory.{list, block, headWord, tokenWord, placeWord, nqrFrom, aqrFrom, nbqrFrom, noMetadata, metadataWords, blockFirst, nextWord}
 use Rattle.rules.specs.Saved.{withNqrAndLo, withAqrAndHi, withNbqr}
+use Rattle.rules.specs.Board.{Board, board, onSaved, onReceive}
 use Rattle.rules.specs.Queues.{isEmpty, hasRoom, pushed, pushedWord, oldest, removed}
 
 -- ---- what a notice says
@@ -55,64 +56,28 @@ token w = field 1 31 w
 abbrev pub placeOf : List ℕ → ListIndex → ℕ
 placeOf receive l = getD receive (placeWord l) 0
 
--- ---- the board: what queues, postings and takes change, and the interrupts, summed
-
-pub record Board : Type 0 where
-  pub saved : Saved
-  pub receive : List ℕ
-  pub notices : List ℕ
-  pub interrupts : ℕ
-
--- The board of its parts.
-abbrev pub board : Saved → List ℕ → List ℕ → ℕ → Board
-board s receive notices interrupts = record { saved = s; receive = receive; notices = notices; interrupts = interrupts }
-
--- A machine after some steps of a call, and the interrupts so far.
-pub record Effect : Type 0 where
-  pub machine : Machine
-  pub interrupts : ℕ
-
--- A machine, and no interrupt yet.
-abbrev pub silently : Machine → Effect
-silently m = record { machine = m; interrupts = 0 }
-
--- A step that changes the board alone.
-abbrev pub onBoard : (Board → Board) → Effect → Effect
-onBoard f e =
-    let m = e .machine in
-    let b = f (board (m .saved) (m .receive) (m .notices) (e .interrupts)) in
-    record { machine = machine (b .saved) (m .send) (b .receive) (m .bytes) (b .notices); interrupts = b .interrupts }
-
--- With its saved state changed.
-abbrev pub onSaved : (Saved → Saved) → Board → Board
-onSaved f b = board (f (b .saved)) (b .receive) (b .notices) (b .interrupts)
-
--- With its Receive RAM changed.
-abbrev pub onReceive : (List ℕ → List ℕ) → Board → Board
-onReceive f b = board (b .saved) (f (b .receive)) (b .notices) (b .interrupts)
-
--- ---- queues, with their interrupts
+-- ---- queues, with their interrupts: "Interrupts, summed"
 
 -- "went from empty to non-empty with int_hi off": a push on this queue, with its bit so, interrupts.
 abbrev pub interrupting : Queue → ℕ → Bool
-interrupting q bit = isEmpty q && eqb bit 0
+interrupting q on = isEmpty q && eqb on 0
 
 -- "(sets it)".
 unfoldable pub bitAfter : Queue → ℕ → ℕ
-bitAfter q bit = pick (interrupting q bit) 1 bit
+bitAfter q on = pick (interrupting q on) 1 on
 
 -- The interrupt's number, or none.
 unfoldable pub interruptOf : ℕ → Queue → ℕ → ℕ
-interruptOf number q bit = pick (interrupting q bit) number 0
+interruptOf number q on = pick (interrupting q on) number 0
 
 -- A word on a queue that interrupts: its entries stand from `from` on, its interrupt has this number; `store` saves it with its bit.
 abbrev pub pushInterrupting : ℕ → ℕ → (Queue → ℕ → Saved → Saved) → Queue → ℕ → ℕ → Board → Board
-pushInterrupting from number store q bit w b =
+pushInterrupting from number store q on w b =
     board
-    (store (pushed q) (bitAfter q bit) (b .saved))
+    (store (pushed q) (bitAfter q on) (b .saved))
     (pushedWord from q w (b .receive))
     (b .notices)
-    (b .interrupts + interruptOf number q bit)
+    (b .interrupts + interruptOf number q on)
 
 -- "1, AQR went from empty to non-empty with int_hi off (sets it)": a word on AQR.
 unfoldable pub pushAqr : ℕ → Board → Board
@@ -172,6 +137,5 @@ postAll (Posting.On l n) b = post l n b
 
 -- "zeroes its next, moves the reader's place to that next, returns the block to NBQR".
 unfoldable pub takeBlock : ListIndex → BlockAddress → BlockAddress → Board → Board
-takeBlock l b next before =
-    pushNbqr b
-    (board (before .saved) (set (before .receive) (placeWord l) (next .0)) (set (before .notices) (blockWord b 3) 0) (before .interrupts))
+takeBlock l a next b =
+    pushNbqr a (board (b .saved) (set (b .receive) (placeWord l) (next .0)) (set (b .notices) (nextWord a) 0) (b .interrupts))

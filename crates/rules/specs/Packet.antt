@@ -3,22 +3,22 @@ use Rattle.ground.specs.Bytes.{wordAt, toBytes}
 use Rattle.ground.specs.Choice.{pick}
 use Rattle.ground.specs.Field.{field}
 use Rattle.ground.specs.Lists.{part}
-use Rattle.rules.specs.Types.{ℕ, _+_, _-_, _*_, _%_, _^_, Bool, not, _&&_, _||_, List, [], _∷_, _++_, eqb, leb, length, take, Metadata, Header, Packet}
-use Rattle.rules.specs.Words.{isAckPkt, reservedBit, metaFlag, metaOk}
+use Rattle.rules.specs.Types.{ℕ, _-_, _*_, _%_, _^_, Bool, not, _&&_, _||_, List, [], _∷_, _++_, eqb, leb, length, take, Metadata, Header, Packet}
+use Rattle.rules.specs.Words.{zeroLow, zeroTop, isAckPkt, reservedBit, metaFlag, metaOk}
 use Rattle.rules.specs.Memory.{noMetadata, metadataWords}
 use Rattle.rules.specs.Checksum.{checkOf}
 
 -- ---- numbers
 
--- "The payload begins at byte 20".
+-- "The payload begins at byte 20": in a plain packet, one without the flag.
 abbrev pub plainStart : ℕ
 plainStart = 20
 
--- "or at byte 36 with metadata".
-abbrev pub metaStart : ℕ
-metaStart = 36
+-- "or at byte 36 with metadata": in a flagged packet.
+abbrev pub flaggedStart : ℕ
+flaggedStart = 36
 
--- The payload "is 0 to 128 bytes".
+-- The payload "is 0 to 128 bytes, a multiple of 4".
 abbrev pub payloadMost : ℕ
 payloadMost = 128
 
@@ -28,7 +28,7 @@ packetMost = 168
 
 -- ---- formed
 
--- Words 0 to 3, bytes 0 to 15.
+-- "Word 0 is address0; 1 is dst_slot 16, src_node 12, zero 4; 2 is control0; 3 is zero 4, meta flag 1, meta_len 3, msg_size 24": bytes 0 to 15.
 abbrev pub headerBytes : Header → List ℕ
 headerBytes h = toBytes (h .address0 ∷ h .address1 ∷ h .control0 ∷ h .control1 ∷ [])
 
@@ -66,7 +66,7 @@ flagged bytes = metaFlag (wordAt bytes 12)
 
 -- "The payload begins at byte 20, or at byte 36 with metadata".
 unfoldable pub payloadFrom : List ℕ → ℕ
-payloadFrom bytes = pick (flagged bytes) metaStart plainStart
+payloadFrom bytes = pick (flagged bytes) flaggedStart plainStart
 
 -- How long the payload is: the rest without the word of the body check.
 abbrev pub payloadLength : List ℕ → ℕ
@@ -76,12 +76,12 @@ payloadLength bytes = length bytes - payloadFrom bytes - 4
 abbrev pub payloadOf : List ℕ → List ℕ
 payloadOf bytes = part (payloadFrom bytes) (payloadLength bytes) bytes
 
--- The metadata, from byte 20 on; zeros without the flag.
+-- The metadata, bytes 20 to 35; zeros without the flag.
 unfoldable pub metadataOf : List ℕ → Metadata
 metadataOf bytes =
     pick (flagged bytes) (record { a = wordAt bytes 20; b = wordAt bytes 24; c = wordAt bytes 28; d = wordAt bytes 32 }) noMetadata
 
--- What is read of a packet besides its payload's bytes.
+-- What the steps look at besides the two checks: the payload is told by its length.
 unfoldable pub packetOf : List ℕ → Packet
 packetOf bytes =
     record {
@@ -89,7 +89,7 @@ packetOf bytes =
       zerohalf = field 0 16 (wordAt bytes 16);
       metadata = metadataOf bytes;
       length = length bytes;
-      payload = payloadLength bytes;
+      payloadlength = payloadLength bytes;
     }
 
 -- ---- the length
@@ -99,7 +99,7 @@ abbrev pub lengthOk : Bool → ℕ → Bool
 lengthOk flag n =
     eqb (n % 4) 0
     && ((not flag && (eqb n plainStart || (leb 28 n && leb n 152)))
-    || (flag && (eqb n metaStart || (leb 44 n && leb n packetMost))))
+    || (flag && (eqb n flaggedStart || (leb 44 n && leb n packetMost))))
 
 -- "Otherwise no-packet."
 abbrev pub isPacket : List ℕ → Bool
@@ -115,9 +115,9 @@ headerChecks bytes =
 -- "zero and reserved fields, meta_len as meta_cnt, ack is 20 bytes (H)".
 unfoldable pub fieldsOk : Packet → Bool
 fieldsOk p =
-    eqb (field 0 4 (p .header .address1)) 0
+    eqb (zeroLow (p .header .address1)) 0
     && eqb (reservedBit (p .header .control0)) 0
-    && eqb (field 28 4 (p .header .control1)) 0
+    && eqb (zeroTop (p .header .control1)) 0
     && eqb (p .zerohalf) 0
     && metaOk (p .header .control1)
     && (not (isAckPkt (p .header .control0)) || eqb (p .length) plainStart)

@@ -2,14 +2,15 @@
 -- Assumes nothing.
 use Rattle.ground.specs.Choice.{pick, need}
 use Rattle.ground.specs.Signed.{signed, unsigned, isZero}
-use Rattle.rules.specs.Types.{ℕ, _+_, _^_, Bool, true, false, not, _&&_, _||_, List, eqb, ltb, leb, length, sets, ℤ, pos, _+ℤ_, _-ℤ_}
+use Rattle.rules.specs.Types.{ℕ, _+_, _^_, Bool, true, false, not, _&&_, _||_, List, eqb, ltb, leb, sets, ℤ, pos, _+ℤ_, _-ℤ_}
 use Rattle.rules.specs.Types.{Saved, SlotIndex, Slot, Header, Packet, Notice, Posting, Receipt}
 use Rattle.rules.specs.Words.{dstNode, dstSlot, srcNode, usesMsgSize, usesMsgOffset, isAckPkt, incarnation, offset, metaFlag, metaPart, msgSize}
 use Rattle.rules.specs.Memory.{Machine, withBytes, slot, list, noMetadata}
 use Rattle.rules.specs.Saved.{withCounts, ownIncarnation, ownNode, counted}
 use Rattle.rules.specs.Queues.{hasRoom}
-use Rattle.rules.specs.Notices.{Board, Effect, silently, onBoard, onSaved, onReceive, message, fault, faultList, pushAqr, canPostAll, postAll}
-use Rattle.rules.specs.Slots.{slotAt, storeSlot, withMessage, slotNoteIndex, doesAcks, slotNotifies, ackNoteIndex, inRange, slotOk}
+use Rattle.rules.specs.Board.{Board, Effect, silently, onBoard, onSaved, onReceive}
+use Rattle.rules.specs.Notices.{message, fault, faultList, pushAqr, canPostAll, postAll}
+use Rattle.rules.specs.Slots.{slotAt, storeSlot, withMessage, slotNoteIndex, doesAcks, slotNotifies, ackNoteIndex, within24, slotOk}
 use Rattle.rules.specs.Packet.{payloadOf, packetOf, headerChecks, fieldsOk, bodyChecks}
 
 -- ---- the table
@@ -17,26 +18,26 @@ use Rattle.rules.specs.Packet.{payloadOf, packetOf, headerChecks, fields
 -- "use_msg_size stores msg_size and adds it to bytes_to_go"; "bytes_to_go falls by the payload": the new bytes_to_go.
 unfoldable pub newBytesToGo : Packet → Slot → ℤ
 newBytesToGo p v =
-    signed (v .bytestogo) +ℤ pos (pick (usesMsgSize (p .header .control0)) (msgSize (p .header .control1)) 0) -ℤ pos (p .payload)
+    signed (v .bytestogo) +ℤ pos (pick (usesMsgSize (p .header .control0)) (msgSize (p .header .control1)) 0) -ℤ pos (p .payloadlength)
 
 -- The table of steps, each with its status. The slot is looked at only once its number is below the count.
 unfoldable pub receiptOf : Saved → List ℕ → ℕ → List ℕ → Receipt
-receiptOf s receive dataLength bytes =
-    let p = packetOf bytes in
+receiptOf s receive dataLength packet =
+    let p = packetOf packet in
     let h = p .header in
-    need (headerChecks bytes) (Receipt.Fails 0x0400)
-    (need (fieldsOk p) (Receipt.Fails 0x0080)
-    (need (eqb (dstNode (h .address0)) (ownNode (s .pcsr0))) (Receipt.Fails 0x2000)
-    (need (ltb (dstSlot (h .address1)) (s .slots)) (Receipt.Fails 0x4000)
+    need (headerChecks packet) (Receipt.Fails 0x0400)  -- "header check"
+    (need (fieldsOk p) (Receipt.Fails 0x0080)  -- "zero and reserved fields, meta_len as meta_cnt, ack is 20 bytes (H)"
+    (need (eqb (dstNode (h .address0)) (ownNode (s .pcsr0))) (Receipt.Fails 0x2000)  -- "dst_node is ours"
+    (need (ltb (dstSlot (h .address1)) (s .slots)) (Receipt.Fails 0x4000)  -- "slot at or above the count (H)"
     (let i = slot (dstSlot (h .address1)) in
     let v = slotAt receive i in
-    need (slotOk v dataLength) (Receipt.Fails 0x8000)
-    (need (eqb (incarnation (h .control0)) (ownIncarnation (s .pcsr0))) (Receipt.Fails 0x0100)
-    (need (not (isAckPkt (h .control0))) (Receipt.Acks i)
-    (need (leb (offset (h .control0)) (v .size)) (Receipt.Fails 0x1000)
-    (need (leb (offset (h .control0) + p .payload) (v .size)) (Receipt.Fails 0x0800)
-    (need (inRange (newBytesToGo p v)) (Receipt.Fails 0x0800)
-    (need (bodyChecks bytes) (Receipt.Fails 0x0200)
+    need (slotOk v dataLength) (Receipt.Fails 0x8000)  -- "slot not valid"
+    (need (eqb (incarnation (h .control0)) (ownIncarnation (s .pcsr0))) (Receipt.Fails 0x0100)  -- "incarnation"
+    (need (not (isAckPkt (h .control0))) (Receipt.Acks i)  -- "ack: notice to ack_note_index, no slot change, end"
+    (need (leb (offset (h .control0)) (v .size)) (Receipt.Fails 0x1000)  -- "offset above buffer size"
+    (need (leb (offset (h .control0) + p .payloadlength) (v .size)) (Receipt.Fails 0x0800)  -- "offset plus payload above it"
+    (need (within24 (newBytesToGo p v)) (Receipt.Fails 0x0800)  -- "new bytes_to_go beyond 16,777,215 either way (H)"
+    (need (bodyChecks packet) (Receipt.Fails 0x0200)  -- "body check or its padding"
     (Receipt.Lands i)))))))))))
 
 -- ---- what lands
@@ -56,7 +57,7 @@ landed p v =
 
 -- "The message is complete if the result is 0 and the packet had payload or use_msg_size."
 unfoldable pub completes : Packet → Slot → Bool
-completes p v = isZero (newBytesToGo p v) && (ltb 0 (p .payload) || usesMsgSize (p .header .control0))
+completes p v = isZero (newBytesToGo p v) && (ltb 0 (p .payloadlength) || usesMsgSize (p .header .control0))
 
 -- "and slot words 7 to 11 go to 0. msg_size and msg_offset stay."
 unfoldable pub finished : Slot → Slot

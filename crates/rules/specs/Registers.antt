@@ -1,7 +1,7 @@
 -- "Registers": the map, what an access reaches, PCSR1, and what a read shows. Assumes nothing.
 use Rattle.ground.specs.Choice.{pick}
-use Rattle.ground.specs.Field.{bit}
-use Rattle.rules.specs.Types.{ℕ, _+_, _-_, _*_, _/_, _%_, _^_, Bool, not, _&&_, List, eqb, ltb, leb, getD, Saved, Refusal, NoRegister, Register, Mapped, Reach, Shown}
+use Rattle.ground.specs.Field.{bit, flag}
+use Rattle.rules.specs.Types.{ℕ, _+_, _-_, _*_, _/_, _%_, _^_, Bool, not, _&&_, List, eqb, ltb, leb, Saved, NoRegister, Register, Mapped, Reach, Shown}
 use Rattle.rules.specs.Memory.{sendSize, receiveSize, nqrFrom, aqrFrom}
 use Rattle.rules.specs.Saved.{withPointers, withNqr, withAqr}
 use Rattle.rules.specs.Queues.{isEmpty, hasRoom, oldest, removed}
@@ -87,9 +87,17 @@ stepped (Mapped.SendPage low) s = s
 stepped (Mapped.ReceivePage low) s = s
 stepped Mapped.Unmapped s = s
 
--- ---- PCSR1
+-- ---- PCSR1: ready (31), int_hi (30), int_lo (29), idle (28), nbqr_empty (27), nbqr_full (26), 6 zero (25-20), 4 bits (19-16), 16 zero (15-0)
 
--- "PCSR1: ready (1), int_hi, int_lo, idle (1), nbqr_empty, nbqr_full, 6 zero, 4 bits holding 4, 16 zero": bits 31 to 26, 25-20, 19-16, 15-0.
+-- "int_hi", of a word that is written.
+abbrev pub intHi : ℕ → Bool
+intHi w = flag 30 w
+
+-- "int_lo".
+abbrev pub intLo : ℕ → Bool
+intLo w = flag 29 w
+
+-- "PCSR1: ready (1), int_hi, int_lo, idle (1), nbqr_empty, nbqr_full, 6 zero, 4 bits holding 4, 16 zero."
 unfoldable pub pcsr1 : Saved → ℕ
 pcsr1 s =
     2 ^ 31 + s .inthi * 2 ^ 30 + s .intlo * 2 ^ 29 + 2 ^ 28 + bit (isEmpty (s .nbqr)) * 2 ^ 27 + bit (not (hasRoom (s .nbqr))) * 2 ^ 26 + 4 * 2 ^ 16

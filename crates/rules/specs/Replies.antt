@@ -1,7 +1,8 @@
 -- "Replies": their numbers and values, and all that a call gives. Assumes nothing.
-use Rattle.rules.specs.Types.{ℕ, List, Refusal, Sizes, Unsound, NoRegister, ReadOnly, Active, BadValue, Off, Short, NoPacket, Empty, Full, Quiet, Stalled, Fabric, Reply, Answer}
+use Rattle.ground.specs.Text.{ascii}
+use Rattle.rules.specs.Types.{ℕ, List, [], _∷_, Refusal, Sizes, Unsound, NoRegister, ReadOnly, Active, BadValue, Off, Short, NoPacket, Empty, Full, Quiet, Stalled, Fabric, Reply, Answer}
 use Rattle.rules.specs.Memory.{Machine, machine}
-use Rattle.rules.specs.Notices.{Effect}
+use Rattle.rules.specs.Board.{Effect, silently}
 
 -- The column "No." of the table, in its order.
 abbrev pub refusalNumber : Refusal → ℕ
@@ -19,6 +20,27 @@ refusalNumber Full = 6
 refusalNumber Quiet = 11
 refusalNumber Stalled = 8
 refusalNumber Fabric = 15
+
+-- The column "Word", by number from 0 to 15.
+unfoldable pub replyWords : List (List ℕ)
+replyWords =
+    ascii "done"
+    ∷ ascii "off"
+    ∷ ascii "no-register"
+    ∷ ascii "read-only"
+    ∷ ascii "bad-value"
+    ∷ ascii "active"
+    ∷ ascii "full"
+    ∷ ascii "no-packet"
+    ∷ ascii "stalled"
+    ∷ ascii "fault"
+    ∷ ascii "short"
+    ∷ ascii "quiet"
+    ∷ ascii "empty"
+    ∷ ascii "sizes"
+    ∷ ascii "unsound"
+    ∷ ascii "fabric"
+    ∷ []
 
 -- A reply's number.
 abbrev pub replyNumber : Reply → ℕ
@@ -50,6 +72,6 @@ abbrev pub answered : Answer → List ℕ → List ℕ → List ℕ → List ℕ
 answered a send receive bytes notices room =
     outcome (a .reply) (record { machine = machine (a .saved) send receive bytes notices; interrupts = a .interrupts }) room
 
--- "Every reply but done and fault is a refusal": value and interrupts 0, over the machine and the room that it leaves.
+-- "Every reply but done and fault is a refusal": value 0, interrupts "0 on a refusal", over the machine and the room that it leaves.
 abbrev pub refused : Refusal → Machine → List ℕ → Outcome
-refused why m room = outcome (Reply.Refused why) (record { machine = m; interrupts = 0 }) room
+refused why m room = outcome (Reply.Refused why) (silently m) room

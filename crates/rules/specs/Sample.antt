@@ -17,10 +17,10 @@ input = rec 1 0 0x40030007 ++ rec 2 0 0 ++ rec 1 0x01C 0x20 ++ rec 4 1 0 ++ rec 
 abbrev lines : List ℕ
 lines = ascii "1 done 00000000 0\n2 done 40030007 0\n1 done 00000000 0\n4 quiet 00000000 0\n1 bad-value 00000000 0\n"
 
--- Three bytes more are a torn record.
+-- Three bytes more, a torn record.
 abbrev torn : List ℕ
 torn = 1 ∷ 0 ∷ 0 ∷ []
 
 pub record Sample : Type 0 where
   pub five-records : station input ≡ lines
-  pub torn-record : station torn ≡ ascii "0 no-register 00000000 0\n"
+  pub torn-record : station (input ++ torn) ≡ lines ++ ascii "0 no-register 00000000 0\n"

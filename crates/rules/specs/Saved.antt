@@ -83,7 +83,7 @@ withLastSender v s =
 abbrev pub resets : ℕ → Bool
 resets w = flag 31 w
 
--- "enable 1".
+-- "enable 1"; off is "receive or send with enable 0".
 abbrev pub enables : ℕ → Bool
 enables w = flag 30 w
 
@@ -95,9 +95,13 @@ ownIncarnation w = field 16 4 w
 abbrev pub ownNode : ℕ → ℕ
 ownNode w = field 0 16 w
 
+-- "reserved 10".
+abbrev pub reservedBits : ℕ → ℕ
+reservedBits w = field 20 10 w
+
 -- "reserved bits or a node above 4095 are a bad value".
 abbrev pub pcsr0Ok : ℕ → Bool
-pcsr0Ok w = eqb (field 20 10 w) 0 && leb (ownNode w) 4095
+pcsr0Ok w = eqb (reservedBits w) 0 && leb (ownNode w) 4095
 
 -- "the other fields are stored with reset 0".
 abbrev pub withoutReset : ℕ → ℕ
@@ -113,6 +117,7 @@ counted n = (n + 1) % 2 ^ 32
 abbrev pub noEntries : Queue
 noEntries = record { place = 0; length = 0 }
 
--- What a reset leaves, where PCSR0 is stored as w: "counts, pointers, slot count, interrupt bits" are 0; "Last sender becomes 3."
+-- What a reset leaves, where PCSR0 is stored as w: "counts, pointers, slot count, interrupt bits" are 0, the packet counts "start from 0 at a
+-- reset"; "Last sender becomes 3."
 abbrev pub resetSaved : ℕ → Saved
 resetSaved w = saved w 0 0 0 0 0 0 0 noEntries noEntries noEntries 3

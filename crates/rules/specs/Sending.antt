@@ -4,15 +4,24 @@ use Rattle.ground.specs.Choice.{pick, allBelow}
 use Rattle.ground.specs.Field.{field, flag, without, withField}
 use Rattle.ground.specs.Lists.{part}
 use Rattle.rules.specs.Types.{ℕ, zero, suc, _+_, _-_, _/_, _%_, min, Bool, not, _&&_, _||_, List, [], _∷_, eqb, ltb, leb, getD, set, sets}
-use Rattle.rules.specs.Types.{Saved, ListIndex, DescriptorIndex, Metadata, Descriptor, Header, Posting, Found}
+use Rattle.rules.specs.Types.{Saved, DescriptorIndex, Descriptor, Header, Posting, Found}
 use Rattle.rules.specs.Words.{most24, noteIndex, dstSlot, slotAndSource, isAckPkt, reservedBit, offset, isDirectIo, isControlPkt, notifies, goes, metaFlag, msgSize, metaOk}
 use Rattle.rules.specs.Memory.{descriptors, descriptor, descriptorFirst, descriptorWord, directFrom, directTo, lists, list, metadataAt}
 use Rattle.rules.specs.Packet.{payloadMost, form}
 use Rattle.rules.specs.Notices.{zeroNotice, canPostAll}
 
--- ---- a descriptor's words: "Descriptor words 0 to 6, 8 to 11: msg_address; [address0]; [address1]; control0; bytes_to_go; control1;
--- status2 (busy, stalled, done); metadata"
+-- ---- a descriptor's words
 
+-- control1 is word 5.
+abbrev pub control1Word : ℕ
+control1Word = 5
+
+-- status2 is word 6.
+abbrev pub status2Word : ℕ
+status2Word = 6
+
+-- "Descriptor words 0 to 6, 8 to 11: msg_address; .. control0 ..; bytes_to_go; control1 ..; status2 (busy, stalled, done); metadata."
+-- Words 1 and 2 are address0 and address1.
 unfoldable pub descriptorAt : List ℕ → DescriptorIndex → Descriptor
 descriptorAt send d =
     record {
@@ -21,18 +30,20 @@ descriptorAt send d =
       address1 = getD send (descriptorWord d 2) 0;
       control0 = getD send (descriptorWord d 3) 0;
       bytestogo = getD send (descriptorWord d 4) 0;
-      control1 = getD send (descriptorWord d 5) 0;
-      status2 = getD send (descriptorWord d 6) 0;
+      control1 = getD send (descriptorWord d control1Word) 0;
+      status2 = getD send (descriptorWord d status2Word) 0;
       metadata = metadataAt send (descriptorWord d 8);
     }
 
--- Words 0 to 6 stored.
+-- Words 0 to 6 stored: all that a go and a packet change.
 unfoldable pub storeDescriptor : List ℕ → DescriptorIndex → Descriptor → List ℕ
 storeDescriptor send d v =
     sets send (descriptorFirst d)
     (v .msgaddress ∷ v .address0 ∷ v .address1 ∷ v .control0 ∷ v .bytestogo ∷ v .control1 ∷ v .status2 ∷ [])
 
--- "status2 (busy, stalled, done)", bits 31, 30, 29: done.
+-- "status2 (busy, stalled, done)": bits 31, 30, 29. busy is never set.
+
+-- done.
 abbrev pub isDone : ℕ → Bool
 isDone w = flag 29 w
 
@@ -60,15 +71,15 @@ isActive d = goes (d .control1) && not (isDone (d .status2))
 
 -- "address plus size at most the data memory's length, or for direct_io an address that is a multiple of 4, at least 0x100, and plus
 -- size at most 0x1000".
-abbrev pub rangeOk : Bool → ℕ → ℕ → ℕ → Bool
-rangeOk direct address size dataLength =
+abbrev pub addressOk : Bool → ℕ → ℕ → ℕ → Bool
+addressOk direct address size dataLength =
     (not direct && leb (address + size) dataLength)
     || (direct && eqb (address % 4) 0 && leb directFrom address && leb (address + size) directTo)
 
 -- "a size that is a multiple of 4, offset plus size at most 16,777,215, and" that.
-unfoldable pub sizeOk : Descriptor → ℕ → ℕ → ℕ → Bool
-sizeOk d control1 size dataLength =
-    eqb (size % 4) 0 && leb (offset (d .control0) + size) most24 && rangeOk (isDirectIo control1) (d .msgaddress) size dataLength
+unfoldable pub messageSizeOk : Descriptor → ℕ → ℕ → ℕ → Bool
+messageSizeOk d control1 size dataLength =
+    eqb (size % 4) 0 && leb (offset (d .control0) + size) most24 && addressOk (isDirectIo control1) (d .msgaddress) size dataLength
 
 -- "A control1 write with go 1 needs: meta_cnt at most 4, and 0 without meta_data; control0's reserved bit 0; ack_pkt only with
 -- control_pkt and no metadata; with notify, note_index below 64; and without control_pkt," that of the size.
@@ -80,7 +91,7 @@ goRule d control1 size dataLength =
     && eqb (reservedBit (d .control0)) 0
     && (not (isAckPkt (d .control0)) || (isControlPkt control1 && not (metaFlag control1)))
     && (not (notifies control1) || ltb (noteIndex (d .address1)) lists)
-    && (isControlPkt control1 || sizeOk d control1 size dataLength)
+    && (isControlPkt control1 || messageSizeOk d control1 size dataLength)
 
 -- "It sets bytes_to_go to msg_size and clears stalled and done."
 unfoldable pub started : ℕ → Descriptor → Descriptor
@@ -153,7 +164,7 @@ unfoldable pub nextPacket : ℕ → Descriptor → List ℕ → List ℕ → Lis
 nextPacket node d send bytes = form (nextHeader node d) (d .metadata) (nextBytes d send bytes)
 
 -- "After it msg_address and offset rise and bytes_to_go falls by the payload; use bits, meta_data and meta_cnt go to 0; stalled clears.
--- With nothing left, or control_pkt, done is set". (The go rule keeps the offset within its 24 bits.)
+-- With nothing left, or control_pkt, done is set". (In a sound machine the offset stays within its 24 bits.)
 unfoldable pub afterPacket : Descriptor → Descriptor
 afterPacket d =
     let n = nextPayload d in
@@ -170,4 +181,4 @@ afterPacket d =
 
 -- fabric: "stalled set on the chosen descriptor, no more".
 unfoldable pub markStalled : List ℕ → DescriptorIndex → List ℕ
-markStalled send d = set send (descriptorWord d 6) (withStalled (descriptorAt send d .status2))
+markStalled send d = set send (descriptorWord d status2Word) (withStalled (descriptorAt send d .status2))

@@ -1,13 +1,14 @@
 -- "Receipt", a slot: its words, and when it is valid. Assumes nothing.
 use Rattle.ground.specs.Field.{field, flag}
 use Rattle.ground.specs.Signed.{signed}
-use Rattle.rules.specs.Types.{ℕ, _+_, Bool, not, _&&_, _||_, List, [], _∷_, eqb, ltb, leb, getD, sets, ℤ, natAbs, SlotIndex, ListIndex, Metadata, Slot}
+use Rattle.rules.specs.Types.{ℕ, _+_, Bool, not, _&&_, _||_, List, _∷_, eqb, ltb, leb, getD, sets, ℤ, natAbs, SlotIndex, Metadata, Slot}
 use Rattle.rules.specs.Words.{most24, metaPart}
-use Rattle.rules.specs.Memory.{slotFirst, slotWord, lists, list, metadataAt, metadataWords}
+use Rattle.rules.specs.Memory.{slotFirst, slotWord, lists, metadataAt, metadataWords}
 
--- ---- a slot's words: "base; size; note_index 16, valid, indirect, do_acks, notify, reserve 12; bytes_to_go, signed; msg_size;
--- msg_offset; ack_note_index 16, unused 16; meta flag and length as in packet word 3; metadata 8 to 11"
+-- ---- a slot's words
 
+-- "Slot words: base; size; note_index 16, valid, indirect, do_acks, notify, reserve 12; bytes_to_go, signed; msg_size;
+-- msg_offset; ack_note_index 16, unused 16; meta flag and length as in packet word 3; metadata 8 to 11."
 unfoldable pub slotAt : List ℕ → SlotIndex → Slot
 slotAt receive i =
     record {
@@ -50,12 +51,12 @@ abbrev pub slotNoteIndex : ℕ → ℕ
 slotNoteIndex w = field 16 16 w
 
 -- "valid".
-abbrev pub isValid : ℕ → Bool
-isValid w = flag 15 w
+abbrev pub validBit : ℕ → Bool
+validBit w = flag 15 w
 
 -- "indirect".
-abbrev pub isIndirect : ℕ → Bool
-isIndirect w = flag 14 w
+abbrev pub indirectBit : ℕ → Bool
+indirectBit w = flag 14 w
 
 -- "do_acks".
 abbrev pub doesAcks : ℕ → Bool
@@ -78,18 +79,18 @@ ackNoteIndex w = field 16 16 w
 -- ---- validity
 
 -- "within 16,777,215 either way".
-unfoldable pub inRange : ℤ → Bool
-inRange z = leb (natAbs z) most24
+unfoldable pub within24 : ℤ → Bool
+within24 z = leb (natAbs z) most24
 
 -- "Valid needs: valid 1, indirect and reserve 0, base plus size inside data memory, bytes_to_go within 16,777,215 either way,
 -- ack_note_index below 64, note_index below 64 if notify, words 4 and 5 below 2^24, word 7 only flag and length."
 unfoldable pub slotOk : Slot → ℕ → Bool
 slotOk v dataLength =
-    isValid (v .noteandflags)
-    && not (isIndirect (v .noteandflags))
+    validBit (v .noteandflags)
+    && not (indirectBit (v .noteandflags))
     && eqb (slotReserve (v .noteandflags)) 0
     && leb (v .base + v .size) dataLength
-    && inRange (signed (v .bytestogo))
+    && within24 (signed (v .bytestogo))
     && ltb (ackNoteIndex (v .acknote)) lists
     && (not (slotNotifies (v .noteandflags)) || ltb (slotNoteIndex (v .noteandflags)) lists)
     && leb (v .msgsize) most24

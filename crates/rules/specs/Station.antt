@@ -8,7 +8,7 @@ use Rattle.rules.specs.Memory.{Machine, machine, sendSize, receiveSize, 
 use Rattle.rules.specs.Saved.{resetSaved}
 use Rattle.rules.specs.Registers.{pcsr0Number}
 use Rattle.rules.specs.Packet.{packetMost}
-use Rattle.rules.specs.Replies.{Outcome}
+use Rattle.rules.specs.Replies.{Outcome, replyWords}
 use Rattle.rules.specs.Calls.{Call, writes, reads, receives, sends, takes, unknown, perform}
 
 -- ---- records: "kind, 3 zero bytes, two numbers of 4 bytes, length of 4, 168 bytes of packet, 8 zero"; "The zero bytes are not checked."
@@ -52,27 +52,6 @@ callOf r =
     unknown))))
 
 -- ---- lines
-
--- The column "Word" of the replies, by number from 0 to 15.
-unfoldable pub replyWords : List (List ℕ)
-replyWords =
-    ascii "done"
-    ∷ ascii "off"
-    ∷ ascii "no-register"
-    ∷ ascii "read-only"
-    ∷ ascii "bad-value"
-    ∷ ascii "active"
-    ∷ ascii "full"
-    ∷ ascii "no-packet"
-    ∷ ascii "stalled"
-    ∷ ascii "fault"
-    ∷ ascii "short"
-    ∷ ascii "quiet"
-    ∷ ascii "empty"
-    ∷ ascii "sizes"
-    ∷ ascii "unsound"
-    ∷ ascii "fabric"
-    ∷ []
 
 -- "Each line: kind, word, value as 8 lowercase hex digits, interrupts"; "Kind and interrupts print in decimal", of a byte three digits at most.
 unfoldable pub lineOf : ℕ → ℕ → ℕ → ℕ → List ℕ

@@ -27,8 +27,8 @@ pub use Rattle.rules.specs.declared.Register.{Register}
 pub use Rattle.rules.specs.declared.Mapped.{Mapped}
 pub use Rattle.rules.specs.declared.Reach.{Reach}
 pub use Rattle.rules.specs.declared.Shown.{Shown}
-pub use Rattle.rules.specs.declared.SendPlace.{SendPlace}
-pub use Rattle.rules.specs.declared.ReceivePlace.{ReceivePlace}
+pub use Rattle.rules.specs.declared.SendPart.{SendPart}
+pub use Rattle.rules.specs.declared.ReceivePart.{ReceivePart}
 pub use Rattle.rules.specs.declared.Number.{Number}
 pub use Rattle.rules.specs.declared.SendStore.{SendStore}
 pub use Rattle.rules.specs.declared.ReceiveStore.{ReceiveStore}

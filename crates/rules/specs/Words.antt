@@ -1,5 +1,5 @@
--- "Words are big-endian; the first named field takes the top bits": the words that descriptors, slots, packets and notices share,
--- with the bits of each field, 31 the top. Layouts.antt holds them against document 01's widths. Assumes nothing.
+-- "the first named field takes the top bits": the words that descriptors, slots, packets and notices share, with the bits of each field, 31
+-- the top. Layouts.antt holds them against document 01's widths. Assumes nothing.
 use Rattle.ground.specs.Field.{field, flag}
 use Rattle.rules.specs.Types.{ℕ, _+_, _*_, _^_, Bool, _&&_, _||_, eqb, leb}
 
@@ -27,6 +27,10 @@ noteIndex w = field 0 16 w
 -- "src_node 12", of a packet.
 abbrev pub srcNode : ℕ → ℕ
 srcNode w = field 4 12 w
+
+-- "zero 4", of a packet.
+abbrev pub zeroLow : ℕ → ℕ
+zeroLow w = field 0 4 w
 
 -- "dst_slot 16, src_node 12, zero 4", made: a packet's word 1 and a message notice's word 0.
 abbrev pub slotAndSource : ℕ → ℕ → ℕ
@@ -60,7 +64,8 @@ abbrev pub offset : ℕ → ℕ
 offset w = field 0 24 w
 
 -- ---- control1, a descriptor's word 5: direct_io (31), control_pkt (30), notify (29), go (28), meta_data (27), meta_cnt 3 (26-24),
--- msg_size 24 (23-0); a packet's word 3, a slot's word 7 and a message notice's word 2: zero 4 (31-28), the rest the same
+-- msg_size 24 (23-0); a packet's word 3 and a message notice's word 2: zero 4 (31-28), meta flag 1 (27), meta_len 3 (26-24), msg_size 24 (23-0);
+-- a slot's word 7: only that flag and length
 
 -- "direct_io".
 abbrev pub isDirectIo : ℕ → Bool
@@ -77,6 +82,10 @@ notifies w = flag 29 w
 -- "go".
 abbrev pub goes : ℕ → Bool
 goes w = flag 28 w
+
+-- "zero 4", of a packet's word 3.
+abbrev pub zeroTop : ℕ → ℕ
+zeroTop w = field 28 4 w
 
 -- "meta_data", "meta flag 1".
 abbrev pub metaFlag : ℕ → Bool

@@ -1,16 +1,15 @@
 -- "Registers", writes: what each word takes, and what a write that is carried out stores. Assumes nothing.
 use Rattle.ground.specs.Choice.{pick, need}
-use Rattle.ground.specs.Field.{flag}
 use Rattle.ground.specs.Lists.{over}
 use Rattle.rules.specs.Types.{ℕ, Bool, not, _&&_, _||_, List, [], _∷_, _++_, eqb, leb, length, set, sets, replicate}
-use Rattle.rules.specs.Types.{Saved, SlotIndex, ReadOnly, Active, BadValue, Full, Register, Reach, SendPlace, ReceivePlace, Number, SendStore, ReceiveStore, Writing}
+use Rattle.rules.specs.Types.{Saved, ReadOnly, Active, BadValue, Full, Register, Reach, SendPart, ReceivePart, Number, SendStore, ReceiveStore, Writing}
 use Rattle.rules.specs.Words.{goes, msgSize}
-use Rattle.rules.specs.Memory.{Machine, machine, sendSize, receiveSize, slotsMost, block, descriptorWord, slotWord, headWord, tokenWord, placeWord, sendPlace, receivePlace, isFreeBlock}
+use Rattle.rules.specs.Memory.{Machine, machine, sendSize, receiveSize, slotsMost, block, descriptorWord, slotWord, headWord, tokenWord, placeWord, sendPart, receivePart, isFreeBlock}
 use Rattle.rules.specs.Saved.{withPcsr0, withBits, withSlots, withPointers, resets, pcsr0Ok, withoutReset, resetSaved}
 use Rattle.rules.specs.Queues.{hasRoom}
 use Rattle.rules.specs.Notices.{headOf, enqueues, token}
-use Rattle.rules.specs.Sending.{descriptorAt, storeDescriptor, isActive, goRule, started}
-use Rattle.rules.specs.Registers.{pointerOk}
+use Rattle.rules.specs.Sending.{control1Word, descriptorAt, storeDescriptor, isActive, goRule, started}
+use Rattle.rules.specs.Registers.{pointerOk, intHi, intLo}
 
 -- ---- what each word takes, in the order read-only, active, bad-value, full
 
@@ -22,19 +21,19 @@ descriptorWordFixed k = eqb k 4 || eqb k 6 || eqb k 7 || leb 12 k
 abbrev pub slotWordFixed : ℕ → Bool
 slotWordFixed k = not (eqb k 0 || eqb k 1 || eqb k 2 || eqb k 6)
 
--- control1 is a descriptor's word 5: "A control1 write with go 1".
+-- "A control1 write with go 1".
 abbrev pub starts : ℕ → ℕ → Bool
-starts k v = eqb k 5 && goes v
+starts k v = eqb k control1Word && goes v
 
 -- "control1 with go 0".
 abbrev pub stops : ℕ → ℕ → Bool
-stops k v = eqb k 5 && not (goes v)
+stops k v = eqb k control1Word && not (goes v)
 
 -- A word of Send RAM: "Writes to an active descriptor answer active, except control1 with go 0"; "A control1 write with go 1 needs" the go
 -- rule of its msg_size. A word of DIO takes any value.
-unfoldable pub judgeSendWord : List ℕ → ℕ → SendPlace → ℕ → Writing
-judgeSendWord send dataLength (SendPlace.Direct i) v = Writing.StoresSend (SendStore.DirectWord i)
-judgeSendWord send dataLength (SendPlace.OfDescriptor i k) v =
+unfoldable pub judgeSendWord : List ℕ → ℕ → SendPart → ℕ → Writing
+judgeSendWord send dataLength (SendPart.Direct i) v = Writing.StoresSend (SendStore.DirectWord i)
+judgeSendWord send dataLength (SendPart.OfDescriptor i k) v =
     let d = descriptorAt send i in
     need (not (descriptorWordFixed k)) (Writing.No ReadOnly)
     (need (not (isActive d) || stops k v) (Writing.No Active)
@@ -43,17 +42,17 @@ judgeSendWord send dataLength (SendPlace.OfDescriptor i k) v =
 
 -- A word of Receive RAM: read-only are also "queues, reader's places and the rest; a head that is not 0. A head otherwise takes what NBQR
 -- takes"; "A token word with enqueue 1 and token 0 is a bad value (H)."
-unfoldable pub judgeReceiveWord : List ℕ → List ℕ → ReceivePlace → ℕ → Writing
-judgeReceiveWord receive notices (ReceivePlace.OfSlot i k) v =
+unfoldable pub judgeReceiveWord : List ℕ → List ℕ → ReceivePart → ℕ → Writing
+judgeReceiveWord receive notices (ReceivePart.OfSlot i k) v =
     need (not (slotWordFixed k)) (Writing.No ReadOnly)
-    (Writing.StoresReceive (pick (eqb k 2) (ReceiveStore.SlotStart i) (ReceiveStore.SlotWord i k)))
-judgeReceiveWord receive notices (ReceivePlace.Head l) v =
+    (Writing.StoresReceive (pick (eqb k 2) (ReceiveStore.SlotWord2 i) (ReceiveStore.SlotWord i k)))
+judgeReceiveWord receive notices (ReceivePart.Head l) v =
     need (eqb (headOf receive l) 0) (Writing.No ReadOnly)
     (need (isFreeBlock notices v) (Writing.No BadValue)
     (Writing.StoresReceive (ReceiveStore.FirstBlock l (block v))))
-judgeReceiveWord receive notices (ReceivePlace.Token l) v =
+judgeReceiveWord receive notices (ReceivePart.Token l) v =
     need (not (enqueues v && eqb (token v) 0)) (Writing.No BadValue) (Writing.StoresReceive (ReceiveStore.ListToken l))
-judgeReceiveWord receive notices ReceivePlace.Fixed v = Writing.No ReadOnly
+judgeReceiveWord receive notices ReceivePart.Fixed v = Writing.No ReadOnly
 
 -- A register itself: "Read-only: NLHR, NQR, AQR, both counts"; "slot count 0 to 64"; "NBQR takes a block address whose next word is 0;
 -- anything else is a bad value"; full: "NBQR write .. with 256 waiting".
@@ -75,14 +74,14 @@ judgeRegister s notices Register.ReceivePointer v = need (pointerOk receiveSize 
 unfoldable pub judgeReached : Machine → Reach → ℕ → Writing
 judgeReached m (Reach.No why) v = Writing.No why
 judgeReached m (Reach.Itself r) v = judgeRegister (m .saved) (m .notices) r v
-judgeReached m (Reach.InSend i) v = judgeSendWord (m .send) (length (m .bytes)) (sendPlace i) v
-judgeReached m (Reach.InReceive i) v = judgeReceiveWord (m .receive) (m .notices) (receivePlace i) v
+judgeReached m (Reach.InSend i) v = judgeSendWord (m .send) (length (m .bytes)) (sendPart i) v
+judgeReached m (Reach.InReceive i) v = judgeReceiveWord (m .receive) (m .notices) (receivePart i) v
 
 -- ---- what a write stores
 
 -- PCSR1: "A write clears int_hi or int_lo where its bit is 0; nothing else."
 unfoldable pub bitsCleared : ℕ → Saved → Saved
-bitsCleared v s = withBits (pick (flag 30 v) (s .inthi) 0) (pick (flag 29 v) (s .intlo) 0) s
+bitsCleared v s = withBits (pick (intHi v) (s .inthi) 0) (pick (intLo v) (s .intlo) 0) s
 
 -- A number of the saved state.
 unfoldable pub numberSet : Number → ℕ → Saved → Saved
@@ -101,7 +100,7 @@ sendStored (SendStore.Start d) v send = storeDescriptor send d (started v (descr
 -- In Receive RAM: "Writing slot word 2 zeroes words 3, 4, 5 and 7 to 11 (H)"; a head "sets the reader's place too".
 unfoldable pub receiveStored : ReceiveStore → ℕ → List ℕ → List ℕ
 receiveStored (ReceiveStore.SlotWord i k) v receive = set receive (slotWord i k) v
-receiveStored (ReceiveStore.SlotStart i) v receive =
+receiveStored (ReceiveStore.SlotWord2 i) v receive =
     sets (sets receive (slotWord i 2) (v ∷ 0 ∷ 0 ∷ 0 ∷ [])) (slotWord i 7) (0 ∷ 0 ∷ 0 ∷ 0 ∷ 0 ∷ [])
 receiveStored (ReceiveStore.FirstBlock l b) v receive = set (set receive (headWord l) (b .0)) (placeWord l) (b .0)
 receiveStored (ReceiveStore.ListToken l) v receive = set receive (tokenWord l) v

@@ -51,7 +51,7 @@ pub struct Metadata {
     pub d: u32,
 }
 
-// A descriptor's words 0 to 6 and 8 to 11.
+// A descriptor's words 0 to 6 and 8 to 11. (address1 is document 003's name for dst_slot with note_index.)
 pub struct Descriptor {
     pub msgaddress: u32,
     pub address0: u32,
@@ -76,7 +76,7 @@ pub struct Slot {
     pub metadata: Metadata,
 }
 
-// A packet's words 0 to 3.
+// A packet's words 0 to 3. (address1 and control1 are document 003's names for words 1 and 3.)
 pub struct Header {
     pub address0: u32,
     pub address1: u32,
@@ -84,14 +84,14 @@ pub struct Header {
     pub control1: u32,
 }
 
-// What is read of a packet besides its payload's bytes: words 0 to 3, the zero half of word 4, the metadata (zeros without the
-// flag), the packet's length and its payload's length in bytes.
+// What receipt looks at of a packet besides its two checks and the payload's bytes: words 0 to 3, the zero half of word 4, the
+// metadata (zeros without the flag), the packet's length and its payload's length, both in bytes.
 pub struct Packet {
     pub header: Header,
     pub zerohalf: u32,
     pub metadata: Metadata,
     pub length: u32,
-    pub payload: u32,
+    pub payloadlength: u32,
 }
 
 // A notice: the words of its block without the next.
@@ -188,13 +188,13 @@ pub struct Shown {
 }
 
 // What a word of Send RAM is: a descriptor's word, or a word of DIO by its number.
-pub enum SendPlace {
+pub enum SendPart {
     OfDescriptor(DescriptorIndex, u32),
     Direct(u32),
 }
 
-// What a word of Receive RAM is: a slot's word, a list's head or token, or one that no write reaches.
-pub enum ReceivePlace {
+// What a word of Receive RAM is: a slot's word, a list's head or token, or one that no write is addressed to.
+pub enum ReceivePart {
     OfSlot(SlotIndex, u32),
     Head(ListIndex),
     Token(ListIndex),
@@ -222,7 +222,7 @@ pub enum SendStore {
 // What a write stores in Receive RAM: a slot's word 0, 1 or 6, a slot's word 2, a list's first block, a list's token.
 pub enum ReceiveStore {
     SlotWord(SlotIndex, u32),
-    SlotStart(SlotIndex),
+    SlotWord2(SlotIndex),
     FirstBlock(ListIndex, BlockAddress),
     ListToken(ListIndex),
 }
@@ -244,10 +244,10 @@ pub enum Receipt {
     Lands(SlotIndex),
 }
 
-// What a receive does.
+// What a receive does: what the packet comes to, a fault too.
 pub enum Receiving {
     No(Refusal),
-    Takes(Receipt),
+    ComesTo(Receipt),
 }
 
 // The first ready descriptor, or none.
@@ -269,7 +269,7 @@ pub enum Taking {
     Takes(ListIndex, BlockAddress, BlockAddress),
 }
 
-// Whether the rows that every call shares let it go on.
+// Whether the rows sizes and unsound let a call go on.
 pub enum Verdict {
     Go,
     No(Refusal),

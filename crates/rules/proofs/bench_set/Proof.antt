@@ -10,7 +10,7 @@ returns c =
     record {
       after-reset = refl;
       control1-flags = refl;
-      control1-size = refl;
+      control1-numbers = refl;
       payloads = refl;
       to-go = refl;
       first-words = refl;

@@ -1,17 +1,19 @@
 -- `rules::layouts` meets its contract: each word is read and made by document 01's widths. Assumes nothing.
 use mathlib.Core.Path.{_≡_, refl}
 use native.Mathlib.Omega.{arith}
-use Rattle.ground.proofs.Field.{bit-flag}
+use Rattle.ground.proofs.Field.{bit-flag, with-same, with-above, with-below, without-same, without-above, without-below}
 use Rattle.rules.specs.Registers.{pcsr1}
+use Rattle.rules.specs.Sending.{nextHeader}
 use Rattle.rules.proofs.layouts.Statement.{statement}
 use Rattle.rules.proofs.layouts.Tie as tie
 
 returns : tie.Need-returns
-unfolding pcsr1
+unfolding pcsr1 nextHeader
 returns c =
     record {
       word-pcsr0 = λ w. rw (bit-flag 31 w, bit-flag 30 w);
       word-pcsr1 = λ s. omega arith;
+      word-pcsr1-written = λ w. rw (bit-flag 30 w, bit-flag 29 w);
       address0 = λ w. refl;
       address1 = λ w. refl;
       word1 = λ w. refl;
@@ -19,14 +21,20 @@ returns c =
       control0 = λ w. rw (bit-flag 31 w, bit-flag 30 w, bit-flag 29 w);
       control1 = λ w. rw (bit-flag 31 w, bit-flag 30 w, bit-flag 29 w, bit-flag 28 w, bit-flag 27 w);
       word3 = λ w. rw (bit-flag 27 w);
-      word4 = λ w. refl;
+      word3-made = λ node d. rw (bit-flag 27 (d .control1)) (omega arith);
+      word4-made = λ covered. omega arith;
       status2 = λ w. rw (bit-flag 29 w);
+      stalled-set = λ w. rw (with-above 30 1 31 1 1 w (omega arith) (omega arith), with-same 30 1 1 w (omega arith), with-below 30 1 0 30 1 w (omega arith));
+      stalled-cleared = λ w. rw (without-above 30 1 31 1 w (omega arith), without-same 30 1 w, without-below 30 1 0 30 w (omega arith));
+      done-set = λ w. rw (with-above 29 1 30 2 1 w (omega arith) (omega arith), with-same 29 1 1 w (omega arith), with-below 29 1 0 29 1 w (omega arith));
+      both-cleared = λ w. rw (without-above 29 2 31 1 w (omega arith), without-same 29 2 w, without-below 29 2 0 29 w (omega arith));
       slot-word2 = λ w. rw (bit-flag 15 w, bit-flag 14 w, bit-flag 13 w, bit-flag 12 w);
       slot-word6 = λ w. refl;
       slot-word7 = λ w. rw (bit-flag 27 w) (omega arith);
       token-word = λ w. rw (bit-flag 0 w);
       message-word0 = λ i source ack inc off w m. omega arith;
       message-word1 = λ i source ack inc off w m. omega arith;
+      message-word2 = λ w size. rw (bit-flag 27 w) (omega arith);
       fault-word0 = λ slot status node source. omega arith;
       fault-word2 = λ slot status node source. omega arith;
     }
