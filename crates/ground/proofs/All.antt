@@ -18,6 +18,11 @@ pub all-more : (p : ℕ → Bool) (i : ℕ) → allBelow i p ≡ true → p i �
 unfolding allBelow
 all-more p i h e = rw (add-one, h, e)
 
+-- A turn of a loop that keeps whether the test held so far.
+pub all-turn : (p : ℕ → Bool) (i : ℕ) {ok t : Bool} → ok ≡ allBelow i p → t ≡ p i → (ok && t) ≡ allBelow (i + 1) p
+unfolding allBelow
+all-turn p i e f = rw (add-one, e, f)
+
 -- What holds at n, and at i where i < n, holds at i where i < n + 1.
 last : (p : ℕ → Bool) (n i : ℕ) (t : Bool) → i < suc n → (i < n → p i ≡ t) → p n ≡ t → Dec (i < n) → p i ≡ t
 last p n i t lt f e (yes l) = f l

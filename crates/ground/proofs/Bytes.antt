@@ -5,10 +5,10 @@ use Prim.Native.Nat.{ℕ, zero, suc, _+_, _*_, _/_, _%_, _^_, _<_, _≤_}
 use native.Mathlib.Numerals.{add-one, add-two, add-three, add-four}
 use native.Mathlib.Omega.{arith}
 use lib.ListN.{length, getD, set, take, drop}
-use lib.Seq.{sets, set-getD, take-suc, take-all, length-take-le, drop-cons, getD-append-add, getD-append-seam, getD-drop}
+use lib.Seq.{sets, set-getD, take-suc, take-all, length-take-le, drop-cons, drop-length, getD-append-add, getD-append-seam, getD-drop}
 use Rattle.ground.specs.Bytes.{join, wordAt, bytesOf, toBytes}
 use Rattle.ground.specs.Lists.{part, over}
-use Rattle.ground.proofs.Lists.{getD-sets-before, getD-sets-after, getD-sets-in, getD-part, sets-put, over-put, over-all, length-over}
+use Rattle.ground.proofs.Lists.{getD-sets-before, getD-sets-after, getD-sets-in, getD-part, part-add, sets-put, over-put, over-all, length-over, sets-append}
 
 -- Every element is a byte.
 abbrev pub Bytes : List ℕ → Type 0
@@ -68,6 +68,19 @@ four s i h =
 -- The bytes of the word at a place are the part of four there.
 pub bytes-part : (s : List ℕ) (i : ℕ) → Bytes s → i + 4 ≤ length s → bytesOf (wordAt s i) ≡ part i 4 s
 bytes-part s i b h = bytes-word s i b ∙ sym (ap (take 4) (four s i h))
+
+-- The k words from a place on.
+abbrev pub wordsAt : List ℕ → ℕ → ℕ → List ℕ
+wordsAt s i zero = []
+wordsAt s i (suc k) = wordAt s i ∷ wordsAt s (i + 4) k
+
+-- Their bytes are the part there.
+pub bytes-words : (s : List ℕ) (i k : ℕ) → Bytes s → i + k * 4 ≤ length s → toBytes (wordsAt s i k) ≡ part i (k * 4) s
+bytes-words s i zero b h = refl
+bytes-words s i (suc k) b h =
+    let e : suc k * 4 ≡ 4 + k * 4 = omega arith in
+    (λ j. bytes-part s i b (omega arith) j ++ bytes-words s (i + 4) k b (omega arith) j)
+    ∙ sym (ap (λ (n : ℕ). part i n s) e ∙ part-add i 4 (k * 4) s)
 
 -- The word of the bytes of a word that stand after p.
 pub word-bytes : (p : List ℕ) (w : ℕ) (r : List ℕ) → wordAt (p ++ (bytesOf w ++ r)) (length p) ≡ w
@@ -165,6 +178,20 @@ row-length (w ∷ ws) = omega (arith, row-length ws)
 pub row-append : (a b : List ℕ) → toBytes (a ++ b) ≡ toBytes a ++ toBytes b
 row-append [] b = refl
 row-append (w ∷ a) b = ap (λ (l : List ℕ). bytesOf w ++ l) (row-append a b)
+
+-- A turn of a run of stores of words: one of the rest is stored.
+pub words-more : (l ws : List ℕ) (at i : ℕ) {t : List ℕ} → i < length ws → sets l (at + i * 4) (toBytes (drop i ws)) ≡ t
+    → sets (sets l (at + i * 4) (bytesOf (getD ws i 0))) (at + (i + 1) * 4) (toBytes (drop (i + 1) ws)) ≡ t
+words-more l ws at i h e =
+    let k : at + (i + 1) * 4 ≡ at + i * 4 + 4 = omega arith in
+    rw (k, add-one i)
+    (sym (sets-append l (at + i * 4) (bytesOf (getD ws i 0)) (toBytes (drop (suc i) ws)))
+    ∙ ap (λ (x : List ℕ). sets l (at + i * 4) (toBytes x)) (sym (drop-cons ws i 0 h))
+    ∙ e)
+
+-- The end of a run of stores of words: no rest is left.
+pub words-all : (l ws : List ℕ) (at i : ℕ) {t : List ℕ} → i ≡ length ws → sets l (at + i * 4) (toBytes (drop i ws)) ≡ t → l ≡ t
+words-all l ws at i h e = rw (h, drop-length ws) at e
 
 -- A turn of storing a row of words.
 pub row-more : (s ws : List ℕ) (i : ℕ) → i < length ws → length ws * 4 ≤ length s

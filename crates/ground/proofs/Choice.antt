@@ -29,6 +29,12 @@ unfolding pick
 pick-holds P true p q = p
 pick-holds P false p q = q
 
+-- What holds of each, where the test says so, holds of the choice.
+pub pick-by : {A : Type 0} (P : A → Type 0) (b : Bool) {x y : A} → (b ≡ true → P x) → (b ≡ false → P y) → P (pick b x y)
+unfolding pick
+pick-by P true f g = f refl
+pick-by P false f g = g refl
+
 -- A function of the choice is the choice of its results.
 pub pick-ap : {A B : Type 0} (f : A → B) (b : Bool) (x y : A) → f (pick b x y) ≡ pick b (f x) (f y)
 unfolding pick
@@ -58,6 +64,12 @@ pub went : {A : Type 0} (b : Bool) {other rest v : A} → (other ≡ v → ⊥) 
 unfolding need
 went true n e = (refl, e)
 went false n e = absurd (n e)
+
+-- What holds of both outcomes, each where the test says so, holds of the one decided on.
+pub need-holds : {A : Type 0} (P : A → Type 0) (b : Bool) {other rest : A} → (b ≡ false → P other) → (b ≡ true → P rest) → P (need b other rest)
+unfolding need
+need-holds P true f g = g refl
+need-holds P false f g = f refl
 
 -- Two tests in a row with one outcome of failure are one.
 pub need-both : {A : Type 0} (a b : Bool) (other rest : A) → need a other (need b other rest) ≡ need (a && b) other rest

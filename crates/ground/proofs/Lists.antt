@@ -6,8 +6,8 @@ use native.Mathlib.Nat.{add-zero, add-suc, suc-add}
 use native.Mathlib.Numerals.{add-one, add-two, add-three}
 use native.Mathlib.Omega.{arith}
 use lib.ListN.{length, getD, set, take, drop, length-append, length-drop, length-take, length-set, take-append-drop}
-use lib.Seq.{sets, sets-eq, getD-set-same, getD-set-other, getD-take, getD-drop, drop-cons, drop-drop, drop-length, drop-append-le, drop-append-seam, drop-at}
-use lib.Seq.{take-suc, take-suc-set, take-all, take-take, take-append-le, take-append-seam, length-take-le}
+use lib.Seq.{sets, sets-eq, getD-set-same, getD-set-other, getD-take, getD-drop, drop-cons, drop-drop, drop-length, drop-append-le, drop-append-seam}
+use lib.Seq.{drop-at, take-suc, take-suc-set, take-all, take-take, take-add, take-append-le, take-append-seam, length-take-le, set-comm}
 use Rattle.ground.specs.Lists.{part, over, putAt}
 
 module _ {A : Type 0} where
@@ -41,6 +41,18 @@ module _ {A : Type 0} where
   pub sets-four : (l : List A) (i : ℕ) (a b c e : A) → set (set (set (set l i a) (i + 1) b) (i + 2) c) (i + 3) e ≡ sets l i (a ∷ b ∷ c ∷ e ∷ [])
   sets-four l i a b c e = rw (add-one, add-two, add-three)
 
+  -- A store before a run of stores, in either order.
+  set-sets : (l : List A) (i : ℕ) (a : A) (j : ℕ) (vs : List A) → i < j → sets (set l i a) j vs ≡ set (sets l j vs) i a
+  set-sets l i a j [] h = refl
+  set-sets l i a j (v ∷ vs) h =
+      ap (λ (x : List A). sets x (suc j) vs) (set-comm l i j a v (omega arith)) ∙ set-sets (set l j v) i a (suc j) vs (omega arith)
+
+  -- Two runs of stores that do not meet, in either order.
+  pub sets-swap : (l : List A) (i : ℕ) (us : List A) (j : ℕ) (vs : List A) → i + length us ≤ j → sets (sets l j vs) i us ≡ sets (sets l i us) j vs
+  sets-swap l i [] j vs h = refl
+  sets-swap l i (u ∷ us) j vs h =
+      ap (λ (x : List A). sets x (suc i) us) (sym (set-sets l i u j vs (omega arith))) ∙ sets-swap (set l i u) (suc i) us j vs (omega arith)
+
   -- A run of stores that fits is what the part at that place comes back as.
   pub sets-put : (l : List A) (i : ℕ) (vs : List A) → i + length vs ≤ length l → sets l i vs ≡ putAt i vs l
   unfolding putAt
@@ -66,6 +78,21 @@ module _ {A : Type 0} where
   -- An element of a part is the one at its place in the whole.
   pub getD-part : (a n : ℕ) (l : List A) (j : ℕ) (d : A) → j < n → getD (part a n l) j d ≡ getD l (a + j) d
   getD-part a n l j d h = getD-take n (drop a l) j d h ∙ getD-drop a l j d
+
+  -- A part in two.
+  pub part-add : (a n m : ℕ) (l : List A) → part a (n + m) l ≡ part a n l ++ part (a + n) m l
+  part-add a n m l = take-add n m (drop a l) ∙ ap (λ (x : List A). part a n l ++ take m x) (drop-drop n a l)
+
+  -- What holds of each element, and of what stands for those that are not there, holds of each of the first n.
+  take-holds : (P : A → Type 0) (n : ℕ) (l : List A) (d : A) → P d → ((i : ℕ) → P (getD l i d)) → (i : ℕ) → P (getD (take n l) i d)
+  take-holds P zero l d p h i = p
+  take-holds P (suc n) [] d p h i = p
+  take-holds P (suc n) (x ∷ l) d p h zero = h zero
+  take-holds P (suc n) (x ∷ l) d p h (suc i) = take-holds P n l d p (λ j. h (suc j)) i
+
+  -- It holds of each of a part.
+  pub part-holds : (P : A → Type 0) (a n : ℕ) (l : List A) (d : A) → P d → ((i : ℕ) → P (getD l i d)) → (i : ℕ) → P (getD (part a n l) i d)
+  part-holds P a n l d p h = take-holds P n (drop a l) d p (λ i. rw (getD-drop a l i d) (h (a + i)))
 
   -- What is written where p ends.
   pub over-put : (p ys d : List A) → putAt (length p) ys (over p d) ≡ over (p ++ ys) d
@@ -177,6 +204,18 @@ module _ {A : Type 0} where
       let rest : drop (length ys) (drop a (take a d ++ (ys ++ r))) ≡ r =
       ap (drop (length ys)) (drop-at (take a d) (ys ++ r) a (length-take-le a d k)) ∙ drop-append-seam ys r in
       ap (take n) (cut (take a d ++ (ys ++ r)) ∙ ap (drop c) rest ∙ sym (cut d))
+
+  -- A run of stores from the start on, where it fits, is written over the start.
+  pub sets-first : (p d : List A) → length p ≤ length d → sets d 0 p ≡ over p d
+  sets-first p d h = sets-put d 0 p (omega arith) ∙ put-first p d
+
+  -- The part that a run of stores stored.
+  pub part-sets : (l : List A) (i : ℕ) (vs : List A) → i + length vs ≤ length l → part i (length vs) (sets l i vs) ≡ vs
+  part-sets l i vs h = ap (part i (length vs)) (sets-put l i vs h) ∙ part-put i vs l (omega arith)
+
+  -- A part before a run of stores stays.
+  pub part-sets-before : (b n : ℕ) (l : List A) (i : ℕ) (vs : List A) → b + n ≤ i → i + length vs ≤ length l → part b n (sets l i vs) ≡ part b n l
+  part-sets-before b n l i vs h k = ap (part b n) (sets-put l i vs k) ∙ part-put-before b n i vs l h (omega arith)
 
   -- A turn of a copy.
   pub copied : (to from : List A) (i : ℕ) (d : A) → i < length to → i < length from → take i to ≡ take i from

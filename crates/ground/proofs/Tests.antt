@@ -1,6 +1,6 @@
 -- Laws of tests: what both, one of two, and the opposite say. Assumes nothing.
 use mathlib.Core.Path.{_≡_, refl, sym, ap, _∙_}
-use mathlib.Core.Bool.{Bool, true, false, not, _&&_, _||_}
+use mathlib.Core.Bool.{Bool, true, false, not, _&&_, _||_, true≢false}
 use borrow.Author.Tests.{not-true, not-false}
 
 -- Where both hold, the first does.
@@ -42,6 +42,16 @@ or-first false b h e = sym e ∙ h
 -- One of two holds and the first fails: the second does.
 pub or-second : (a b : Bool) → (a || b) ≡ true → a ≡ false → b ≡ true
 or-second a b h e = rw e at h
+
+-- The second holds: one of two does.
+pub or-yes : (a : Bool) {b : Bool} → b ≡ true → (a || b) ≡ true
+or-yes true e = refl
+or-yes false e = e
+
+-- Neither of two holds: both fail.
+pub or-neither : (a b : Bool) → (a || b) ≡ false → (a ≡ false) × (b ≡ false)
+or-neither true b e = absurd (true≢false e)
+or-neither false b e = (refl, e)
 
 -- The opposite of what fails holds.
 pub not-yes : {b : Bool} → b ≡ false → not b ≡ true

@@ -7,7 +7,7 @@ use Rattle.rules.specs.Calls.{gate, unknownCall, judgeRead, readDone, ac
 use Rattle.rules.specs.Checksum.{bitStep, bitSteps, byteStep}
 use Rattle.rules.specs.Memory.{sendPart, receivePart, isFreeBlock}
 use Rattle.rules.specs.Notices.{bitAfter, interruptOf, pushAqr, pushNqr, pushNbqr, canPost, emptyInterrupt, fillHead, enqueueToken, post, canPostAll, postAll, takeBlock}
-use Rattle.rules.specs.Packet.{metadataBytes, form, payloadFrom, metadataOf, packetOf, headerChecks, fieldsOk, bodyChecks, wellFormed}
+use Rattle.rules.specs.Packet.{metadataBytes, frontBytes, form, payloadFrom, metadataOf, packetOf, headerChecks, fieldsOk, bodyChecks, wellFormed}
 use Rattle.rules.specs.Queues.{oldest, removed}
 use Rattle.rules.specs.Receipt.{newBytesToGo, receiptOf, landed, completes, finished, slotAfter, messageNotice, ackNotice, faultNotice, receiptPosting, needsAqr, hasRoomFor, slotStored, payloadStored, aqrStored, countedBy, receivedOnBoard, received}
 use Rattle.rules.specs.Registers.{single, mapped, decode, reach, stepped, pcsr1, shownItself}
@@ -21,5 +21,5 @@ use Rattle.rules.specs.Types.{ℕ}
 
 -- A name to say so; its value means nothing.
 unfoldable pub everyRule : ℕ
-unfolding pick need allBelow over putAt signed unsigned isZero ascii digit hexadecimal decimal gate unknownCall judgeRead readDone actRead readCall isReset judgeWrite writeDone actWrite writeCall judgeReceive actReceive receiveCall sendingOf judgeSend packetFrom sent actSend sendCall judgeTake actTake takeCall perform bitStep bitSteps byteStep sendPart receivePart isFreeBlock bitAfter interruptOf pushAqr pushNqr pushNbqr canPost emptyInterrupt fillHead enqueueToken post canPostAll postAll takeBlock metadataBytes form payloadFrom metadataOf packetOf headerChecks fieldsOk bodyChecks wellFormed oldest removed newBytesToGo receiptOf landed completes finished slotAfter messageNotice ackNotice faultNotice receiptPosting needsAqr hasRoomFor slotStored payloadStored aqrStored countedBy receivedOnBoard received single mapped decode reach stepped pcsr1 shownItself replyWords descriptorAt storeDescriptor messageSizeOk goRule started nextPayload isLast sendPosting isReady firstFrom nextSender noneActive nextBytes nextHeader nextPacket afterPacket markStalled slotAt storeSlot within24 slotOk registersOk queuesOk headsOk placesOk waitingOk descriptorOk descriptorsOk soundOk kindOf recordPacket callOf lineOf zeroMachine firstMachine recordLine linesFrom station judgeSendWord judgeReceiveWord judgeRegister judgeReached bitsCleared numberSet sendStored receiveStored clearDescriptors reset
+unfolding pick need allBelow over putAt signed unsigned isZero ascii digit hexadecimal decimal gate unknownCall judgeRead readDone actRead readCall isReset judgeWrite writeDone actWrite writeCall judgeReceive actReceive receiveCall sendingOf judgeSend packetFrom sent actSend sendCall judgeTake actTake takeCall perform bitStep bitSteps byteStep sendPart receivePart isFreeBlock bitAfter interruptOf pushAqr pushNqr pushNbqr canPost emptyInterrupt fillHead enqueueToken post canPostAll postAll takeBlock metadataBytes frontBytes form payloadFrom metadataOf packetOf headerChecks fieldsOk bodyChecks wellFormed oldest removed newBytesToGo receiptOf landed completes finished slotAfter messageNotice ackNotice faultNotice receiptPosting needsAqr hasRoomFor slotStored payloadStored aqrStored countedBy receivedOnBoard received single mapped decode reach stepped pcsr1 shownItself replyWords descriptorAt storeDescriptor messageSizeOk goRule started nextPayload isLast sendPosting isReady firstFrom nextSender noneActive nextBytes nextHeader nextPacket afterPacket markStalled slotAt storeSlot within24 slotOk registersOk queuesOk headsOk placesOk waitingOk descriptorOk descriptorsOk soundOk kindOf recordPacket callOf lineOf zeroMachine firstMachine recordLine linesFrom station judgeSendWord judgeReceiveWord judgeRegister judgeReached bitsCleared numberSet sendStored receiveStored clearDescriptors reset
 everyRule = 0

@@ -45,14 +45,13 @@ abbrev pub bodyCheckBytes : List ℕ → List ℕ
 bodyCheckBytes [] = []
 bodyCheckBytes (x ∷ xs) = toBytes (checkWord (x ∷ xs) ∷ [])
 
--- The whole packet. "Header check covers bytes 0 to 15 and metadata; body check the payload."
+-- Words 0 to 4 and the metadata. "Header check covers bytes 0 to 15 and metadata".
+unfoldable pub frontBytes : Header → Metadata → List ℕ
+frontBytes h m = headerBytes h ++ toBytes (checkWord (headerBytes h ++ metadataBytes h m) ∷ []) ++ metadataBytes h m
+
+-- The whole packet; "body check the payload".
 unfoldable pub form : Header → Metadata → List ℕ → List ℕ
-form h m payload =
-    headerBytes h
-    ++ toBytes (checkWord (headerBytes h ++ metadataBytes h m) ∷ [])
-    ++ metadataBytes h m
-    ++ payload
-    ++ bodyCheckBytes payload
+form h m payload = frontBytes h m ++ payload ++ bodyCheckBytes payload
 
 -- ---- read back
 
@@ -76,10 +75,13 @@ payloadLength bytes = length bytes - payloadFrom bytes - 4
 abbrev pub payloadOf : List ℕ → List ℕ
 payloadOf bytes = part (payloadFrom bytes) (payloadLength bytes) bytes
 
--- The metadata, bytes 20 to 35; zeros without the flag.
+-- The four words in bytes 20 to 35.
+abbrev pub metadataIn : List ℕ → Metadata
+metadataIn bytes = record { a = wordAt bytes 20; b = wordAt bytes 24; c = wordAt bytes 28; d = wordAt bytes 32 }
+
+-- The metadata; zeros without the flag.
 unfoldable pub metadataOf : List ℕ → Metadata
-metadataOf bytes =
-    pick (flagged bytes) (record { a = wordAt bytes 20; b = wordAt bytes 24; c = wordAt bytes 28; d = wordAt bytes 32 }) noMetadata
+metadataOf bytes = pick (flagged bytes) (metadataIn bytes) noMetadata
 
 -- What the steps look at besides the two checks: the payload is told by its length.
 unfoldable pub packetOf : List ℕ → Packet
@@ -107,10 +109,13 @@ isPacket bytes = lengthOk (flagged bytes) (length bytes)
 
 -- ---- the steps that look at the packet alone
 
--- "header check": word 4's upper half, over bytes 0 to 15 and what stands between word 4 and the payload.
+-- What it covers where the payload begins at byte `from`: bytes 0 to 15, and what stands between word 4 and the payload.
+abbrev pub headerCovered : ℕ → List ℕ → List ℕ
+headerCovered from bytes = take 16 bytes ++ part plainStart (from - plainStart) bytes
+
+-- "header check", word 4's upper half.
 unfoldable pub headerChecks : List ℕ → Bool
-headerChecks bytes =
-    eqb (field 16 16 (wordAt bytes 16)) (checkOf (take 16 bytes ++ part plainStart (payloadFrom bytes - plainStart) bytes))
+headerChecks bytes = eqb (field 16 16 (wordAt bytes 16)) (checkOf (headerCovered (payloadFrom bytes) bytes))
 
 -- "zero and reserved fields, meta_len as meta_cnt, ack is 20 bytes (H)".
 unfoldable pub fieldsOk : Packet → Bool

@@ -1,0 +1,3 @@
+-- Laws of reading and of forming a packet. Assumes nothing.
+pub mod Reading
+pub mod Forming

@@ -1,0 +1,2 @@
+-- What the functions of `packet` ask and what they leave. Assumes nothing.
+pub mod Packet
