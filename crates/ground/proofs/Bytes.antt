@@ -5,10 +5,10 @@ use Prim.Native.Nat.{ℕ, zero, suc, _+_, _*_, _/_, _%_, _^_, _<_, _≤_}
 use native.Mathlib.Numerals.{add-one, add-two, add-three, add-four}
 use native.Mathlib.Omega.{arith}
 use lib.ListN.{length, getD, set, take, drop}
-use lib.Seq.{sets, set-getD, take-suc, take-all, length-take-le, drop-cons, drop-length, getD-append-add, getD-append-seam, getD-drop}
+use lib.Seq.{sets, set-getD, drop-cons, drop-length, getD-append-add, getD-append-seam, getD-drop}
 use Rattle.ground.specs.Bytes.{join, wordAt, bytesOf, toBytes}
-use Rattle.ground.specs.Lists.{part, over}
-use Rattle.ground.proofs.Lists.{getD-sets-before, getD-sets-after, getD-sets-in, getD-part, part-add, sets-put, over-put, over-all, length-over, sets-append}
+use Rattle.ground.specs.Lists.{part}
+use Rattle.ground.proofs.Lists.{getD-sets-before, getD-sets-after, getD-sets-in, getD-part, part-add, sets-append}
 
 -- Every element is a byte.
 abbrev pub Bytes : List ℕ → Type 0
@@ -192,25 +192,6 @@ words-more l ws at i h e =
 -- The end of a run of stores of words: no rest is left.
 pub words-all : (l ws : List ℕ) (at i : ℕ) {t : List ℕ} → i ≡ length ws → sets l (at + i * 4) (toBytes (drop i ws)) ≡ t → l ≡ t
 words-all l ws at i h e = rw (h, drop-length ws) at e
-
--- A turn of storing a row of words.
-pub row-more : (s ws : List ℕ) (i : ℕ) → i < length ws → length ws * 4 ≤ length s
-    → sets (over (toBytes (take i ws)) s) (i * 4) (bytesOf (getD ws i 0)) ≡ over (toBytes (take (i + 1) ws)) s
-row-more s ws i h l =
-    let p : List ℕ = toBytes (take i ws) in
-    let w : ℕ = getD ws i 0 in
-    let n : length p ≡ i * 4 = row-length (take i ws) ∙ ap (λ (k : ℕ). k * 4) (length-take-le i ws (omega arith)) in
-    let e : toBytes (take (i + 1) ws) ≡ p ++ bytesOf w =
-    rw (add-one i) (ap toBytes (take-suc ws i 0 h) ∙ row-append (take i ws) (w ∷ [])) in
-    ap (λ (k : ℕ). sets (over p s) k (bytesOf w)) (sym n)
-    ∙ sets-put (over p s) (length p) (bytesOf w) (rw (length-over p s (omega arith)) (omega arith))
-    ∙ over-put p (bytesOf w) s
-    ∙ ap (λ (x : List ℕ). over x s) (sym e)
-
--- The end of storing a row of words.
-pub row-all : (s ws : List ℕ) (i : ℕ) → length s ≡ length ws * 4 → length ws ≤ i → over (toBytes (take i ws)) s ≡ toBytes ws
-row-all s ws i h k =
-    ap (λ (l : List ℕ). over (toBytes l) s) (take-all i ws k) ∙ over-all (toBytes ws) s (h ∙ sym (row-length ws))
 
 -- The bytes of a word of 32 bits are bytes.
 pub bytes-of : (w : ℕ) → w < 2 ^ 32 → Bytes (bytesOf w)

@@ -1,5 +1,5 @@
 -- `rules::layouts` meets its contract: each word is read and made by document 01's widths. Assumes nothing.
-use mathlib.Core.Path.{_≡_, refl}
+use mathlib.Core.Path.{refl}
 use native.Mathlib.Omega.{arith}
 use Rattle.ground.proofs.Field.{bit-flag, with-same, with-above, with-below, without-same, without-above, without-below}
 use Rattle.rules.specs.Registers.{pcsr1}
