@@ -1,0 +1,59 @@
+-- `demands::not_vacuous` meets its contract: the worked run computes. Assumes nothing.
+use Prim.Native.Nat.{ℕ, _≤_}
+use mathlib.Core.Path.{_≡_, refl}
+use mathlib.Core.Logic.{_≢_}
+use mathlib.Core.List.{[], _∷_}
+use native.Mathlib.Omega.{arith}
+use native.Mathlib.Decide.{ℕ-discrete}
+use lib.Dec.{eqb}
+use Rattle.ground.proofs.Field.{bit-lt}
+use Rattle.rules.specs.Opened.{everyRule}
+use Rattle.demands.specs.Types.{ListIndex, BlockAddress, Notice}
+use Rattle.demands.specs.Runs.{rewritten, afterEvent, after, gives, opens, posts, gets, rests, clears, storeAct, writingAct, postingAct, receivingAct, sendingAct, takingAct, act}
+use Rattle.demands.specs.History.{gathered, answerOf, handedBy, onList, postedBy, takenBy}
+use Rattle.demands.specs.Places.{count, across, entries, blockOf, walk, noticeAt}
+use Rattle.demands.proofs.Sums.{same-other}
+use Rattle.demands.proofs.not_vacuous.Statement.{statement}
+use Rattle.demands.proofs.not_vacuous.Tie as tie
+
+-- No act of the run is a reset.
+rests-on : rests ≢ clears
+rests-on e = let z : _≡_ {A = ℕ} 0 1 = cc in omega arith
+
+opens-on : {l : ListIndex} {b : BlockAddress} → opens l b ≢ clears
+opens-on e = let z : _≡_ {A = ℕ} 0 1 = cc in omega arith
+
+gives-on : {b : BlockAddress} → gives b ≢ clears
+gives-on e = let z : _≡_ {A = ℕ} 0 1 = cc in omega arith
+
+posts-on : {l : ListIndex} {n : Notice} → posts l n ≢ clears
+posts-on e = let z : _≡_ {A = ℕ} 0 1 = cc in omega arith
+
+gets-on : {l : ListIndex} {n : Notice} → gets l n ≢ clears
+gets-on e = let z : _≡_ {A = ℕ} 0 1 = cc in omega arith
+
+-- Two blocks, each once.
+two : (b : ℕ) → count b (32 ∷ 64 ∷ []) ≤ 1
+two b = go (ℕ-discrete b 32)
+  where
+    go : Dec (b ≡ 32) → count b (32 ∷ 64 ∷ []) ≤ 1
+    go (yes e) = rw e (omega arith)
+    go (no d) = omega (arith, same-other b 32 d, bit-lt (eqb b 64))
+
+returns : tie.Need-returns
+unfolding everyRule rewritten afterEvent after storeAct writingAct postingAct receivingAct sendingAct takingAct act gathered answerOf handedBy onList postedBy takenBy across entries blockOf walk noticeAt
+returns c =
+    record {
+      after-reset = record { asked = refl; done = refl; only = (((((tt, rests-on), opens-on), gives-on), posts-on), gets-on) };
+      once = two;
+      gave = refl;
+      answered = refl;
+      post = refl;
+      walked = refl;
+      stood = refl;
+      took = refl;
+      stands = refl;
+    }
+
+pub not-vacuous-spec : {M : Type 1} → statement M
+not-vacuous-spec = tie.close (tie.spec returns)

@@ -1,0 +1,93 @@
+-- The demands, each as a statement to be read beside it. Assumes nothing.
+use Prim.Native.Nat.{_<_, _≤_}
+use mathlib.Core.Path.{_≡_}
+use mathlib.Core.Logic.{_≢_}
+use Rattle.ground.specs.Choice.{pick}
+use Rattle.rules.specs.Types.{ℕ, _%_, _^_, true, List, [], _++_, length, getD}
+use Rattle.rules.specs.Words.{metaFlag}
+use Rattle.rules.specs.Memory.{Machine, withSend, descriptors, lists, noMetadata}
+use Rattle.rules.specs.Saved.{ownNode}
+use Rattle.rules.specs.Packet.{form, headerOf, metadataOf, payloadOf, wellFormed}
+use Rattle.rules.specs.Sending.{descriptorAt, isActive, nextHeader, nextBytes, nextSender, markStalled}
+use Rattle.rules.specs.Sound.{isSized, isSound}
+use Rattle.rules.specs.Replies.{Outcome}
+use Rattle.rules.specs.Calls.{Call, writes, reads, receives, sends, takes, unknown, perform, packetFrom}
+use Rattle.demands.specs.Types.{DescriptorIndex, Descriptor, Found}
+use Rattle.demands.specs.Runs.{Run, AtEachMoment, after}
+use Rattle.demands.specs.History.{begun, AfterReset, answers, handed, posted, taken}
+use Rattle.demands.specs.Places.{count, standing, found}
+
+-- ---- demand 1: "a refusal alters nothing but the stalled mark that 01 names"
+
+-- The room lent with a call.
+abbrev pub roomOf : Call → List ℕ
+roomOf (writes a v) = []
+roomOf (reads a) = []
+roomOf (receives packet) = []
+roomOf (sends ready room) = room
+roomOf (takes l room) = room
+roomOf unknown = []
+
+-- What a refusal leaves of a machine and a room; with fabric, the descriptor that was chosen is marked stalled, no more.
+pub record Kept (m : Machine) (lent : List ℕ) (o : Outcome) : Type 0 where
+  pub value : o .value ≡ 0
+  pub interrupts : o .interrupts ≡ 0
+  pub room : o .room ≡ lent
+  pub machine : o .reply ≢ 15 → o .machine ≡ m
+  pub marked : o .reply ≡ 15
+      → (d : DescriptorIndex) × (nextSender (m .saved) (m .send) (m .receive) ≡ Found.At d) × (o .machine ≡ withSend (markStalled (m .send) d) m)
+
+-- Every reply but done and fault is a refusal.
+pub record RefusalsAlterNothing : Type 0 where
+  pub holds : (c : Call) (m : Machine) → perform c m .reply ≢ 0 → perform c m .reply ≢ 9 → Kept m (roomOf c) (perform c m)
+
+-- ---- demand 2
+
+-- Each number of a row is below n.
+abbrev pub Below : ℕ → List ℕ → Type 0
+Below n xs = (i : ℕ) → getD xs i 0 < n
+
+-- A packet is well formed, and gives back what it was formed of; without the flag its metadata are zeros.
+pub record ReadAs (m : Machine) (d : Descriptor) (packet : List ℕ) : Type 0 where
+  pub well-formed : wellFormed packet ≡ true
+  pub header : headerOf packet ≡ nextHeader (ownNode (m .saved .pcsr0)) d
+  pub metadata : metadataOf packet ≡ pick (metaFlag (d .control1)) (d .metadata) noMetadata
+  pub payload : payloadOf packet ≡ nextBytes d (m .send) (m .bytes)
+
+-- "What the sender forms the receiver reads back field for field".
+pub record ReadBack : Type 0 where
+  pub holds : (m : Machine) (i : DescriptorIndex) → Below (2 ^ 32) (m .send) → Below 256 (m .bytes) → isSized m ≡ true → isSound m ≡ true
+      → i .0 < descriptors → isActive (descriptorAt (m .send) i) ≡ true → ReadAs m (descriptorAt (m .send) i) (packetFrom m i)
+
+-- "and each packet it passes as well formed is to the byte what 01's layout gives for those fields".
+pub record OnlyFormed : Type 0 where
+  pub holds : (s : List ℕ) → Below 256 s → wellFormed s ≡ true → form (headerOf s) (metadataOf s) (payloadOf s) ≡ s
+
+-- "it also fixes both packet counts from the calls made", modulo 2^32.
+pub record PacketCounts : Type 0 where
+  pub taken : (v : ℕ) (m : Machine) (r : Run) → AfterReset v m r → after (begun v m) r .saved .taken ≡ count 0 (answers (begun v m) r) % 2 ^ 32
+  pub faulted : (v : ℕ) (m : Machine) (r : Run) → AfterReset v m r → after (begun v m) r .saved .faulted ≡ count 9 (answers (begun v m) r) % 2 ^ 32
+
+-- ---- demand 3
+
+-- A moment: the machine, with what the history since the reset says.
+pub record Moment (s : Machine) (r : Run) : Type 0 where
+  -- "every block handed over stands in exactly one place": counted over all places it stands there once, and any other block not at all
+  pub stands : (b : ℕ) → count b (standing (after s r)) ≡ count b (handed s r)
+  -- "their number equals the accepted writes"
+  pub number : length (standing (after s r)) ≡ length (handed s r)
+  -- "on each list the notices taken, then those found by walking from the reader's place, are exactly those that demand 2 posts there"
+  pub order : (k : ℕ) → k < lists → taken k s r ++ found (after s r) k ≡ posted k s r
+
+-- "In any run of calls after a reset (refusals included, no second reset, no block handed over twice, data memory alone written from
+-- outside): at each moment .."
+pub record ThirdDemand : Type 0 where
+  pub holds : (v : ℕ) (m : Machine) (r : Run) → AfterReset v m r → ((b : ℕ) → count b (handed (begun v m) r) ≤ 1)
+      → AtEachMoment (Moment (begun v m)) r
+
+-- ---- replies 13 and 14
+
+-- After any run after a reset, a block handed over twice or not, no call is answered sizes or unsound.
+pub record NeverUnsound : Type 0 where
+  pub sizes : (v : ℕ) (m : Machine) (r : Run) → AfterReset v m r → (c : Call) → perform c (after (begun v m) r) .reply ≢ 13
+  pub unsound : (v : ℕ) (m : Machine) (r : Run) → AfterReset v m r → (c : Call) → perform c (after (begun v m) r) .reply ≢ 14

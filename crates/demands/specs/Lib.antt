@@ -1,0 +1,7 @@
+-- What the buyer asked for, as statements over document 01's definitions. Assumes nothing.
+pub mod Types
+pub mod Runs
+pub mod History
+pub mod Places
+pub mod Demands
+pub mod Worked
