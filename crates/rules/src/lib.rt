@@ -1,4 +1,10 @@
 // The types of the engine, by value. What document 01 says of them stands in specs/, as definitions.
+mod queues;
+
+pub use queues::AQR_FROM;
+pub use queues::NBQR_FROM;
+pub use queues::NQR_FROM;
+pub use queues::Removal;
 ghost use Rattle.rules.specs.Layouts.{Layouts};
 ghost use Rattle.rules.specs.Bench.{Bench};
 ghost use Rattle.rules.specs.Sample.{Sample};

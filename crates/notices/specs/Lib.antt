@@ -1,0 +1,2 @@
+-- What the steps of postings and takes ask and give. Assumes nothing.
+pub mod Steps

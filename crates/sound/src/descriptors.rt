@@ -1,0 +1,110 @@
+// A descriptor's words, and the go rule that register writes and soundness share.
+use rules::Descriptor;
+use rules::DescriptorIndex;
+use rules::Metadata;
+ghost use mathlib.Core.Path.{_≡_};
+ghost use Prim.Native.Nat.{_+_, _≤_, _<_};
+ghost use lib.ListN.{length};
+ghost use Rattle.rules.specs.Memory.{metadataAt};
+ghost use Rattle.rules.specs.Words.{metaOk};
+ghost use Rattle.rules.specs.Sending.{descriptorAt, isActive, addressOk, messageSizeOk, goRule};
+ghost use Rattle.rules.specs.Sound.{descriptorOk, descriptorsOk};
+
+// Four metadata words from word i of a RAM on.
+pub fn metadata_at(ram: &[u32], i: usize) -> Metadata
+    requires { ⌜ i + 4 ≤ length (now ram) ⌝ }
+    ensures { λ r. ⌜ r ≡ metadataAt (now (ram .entry)) i ⌝ }
+{
+    Metadata {
+        a: ram[i],
+        b: ram[i + 1],
+        c: ram[i + 2],
+        d: ram[i + 3],
+    }
+}
+
+// Words 0 to 6 and 8 to 11 of a descriptor.
+pub fn descriptor_at(send: &[u32], d: DescriptorIndex) -> Descriptor
+    requires { ⌜ (d .0 < 4) × (length (now send) ≡ 1024) ⌝ }
+    ensures { λ r. ⌜ r ≡ descriptorAt (now (send .entry)) d ⌝ }
+{
+    let first = 16 * d.0 as usize;
+    let metadata = metadata_at(send, first + 8);
+    Descriptor {
+        msgaddress: send[first],
+        address0: send[first + 1],
+        address1: send[first + 2],
+        control0: send[first + 3],
+        bytestogo: send[first + 4],
+        control1: send[first + 5],
+        status2: send[first + 6],
+        metadata,
+    }
+}
+
+// Go 1 and done 0.
+pub fn is_active(d: Descriptor) -> bool
+    ensures { λ r. ⌜ r ≡ isActive d ⌝ }
+{
+    (d.control1 / 0x1000_0000 % 2 == 1) & !(d.status2 / 0x2000_0000 % 2 == 1)
+}
+
+// meta_cnt at most 4, and 0 without meta_data.
+pub fn meta_ok(control1: u32) -> bool
+    ensures { λ r. ⌜ r ≡ metaOk control1 ⌝ }
+{
+    (control1 / 0x100_0000 % 8 <= 4)
+        & ((control1 / 0x800_0000 % 2 == 1) | (control1 / 0x100_0000 % 8 == 0))
+}
+
+// The message lies in data memory, or for direct_io in DIO.
+fn address_ok(direct: bool, address: u32, size: u32, bytes: usize) -> bool
+    ensures { λ r. ⌜ r ≡ addressOk direct address size bytes ⌝ }
+{
+    let end = address as usize + size as usize;
+    (!direct & (end <= bytes))
+        | (direct & (address % 4 == 0) & (0x100 <= address) & (end <= 0x1000))
+}
+
+// What the go rule asks of a size.
+fn message_size_ok(d: Descriptor, control1: u32, size: u32, bytes: usize) -> bool
+    ensures { λ r. ⌜ r ≡ messageSizeOk d control1 size bytes ⌝ }
+{
+    (size % 4 == 0)
+        & ((d.control0 % 0x100_0000) as usize + size as usize <= 16_777_215)
+        & address_ok(control1 / 0x8000_0000 % 2 == 1, d.msgaddress, size, bytes)
+}
+
+// The go rule, of a control1 word and a size: a write asks it of msg_size, soundness of bytes_to_go.
+pub fn go_rule(d: Descriptor, control1: u32, size: u32, bytes: usize) -> bool
+    ensures { λ r. ⌜ r ≡ goRule d control1 size bytes ⌝ }
+{
+    let control_packet = control1 / 0x4000_0000 % 2 == 1;
+    meta_ok(control1)
+        & (d.control0 / 0x1000_0000 % 2 == 0)
+        & (!(d.control0 / 0x2000_0000 % 2 == 1)
+            | (control_packet & !(control1 / 0x800_0000 % 2 == 1)))
+        & (!(control1 / 0x2000_0000 % 2 == 1) | (d.address1 % 0x1_0000 < 64))
+        & (control_packet | message_size_ok(d, control1, size, bytes))
+}
+
+// A descriptor that is active keeps the go rule for its bytes_to_go.
+fn descriptor_ok(send: &[u32], d: DescriptorIndex, bytes: usize) -> bool
+    requires { ⌜ (d .0 < 4) × (length (now send) ≡ 1024) ⌝ }
+    ensures { λ r. ⌜ r ≡ descriptorOk bytes (descriptorAt (now (send .entry)) d) ⌝ }
+{
+    let words = descriptor_at(send, d);
+    !is_active(words) | go_rule(words, words.control1, words.bytestogo, bytes)
+}
+
+// All four.
+pub(crate) fn descriptors_ok(send: &[u32], bytes: usize) -> bool
+    requires { ⌜ length (now send) ≡ 1024 ⌝ }
+    ensures { λ r. ⌜ r ≡ descriptorsOk (now (send .entry)) bytes ⌝ }
+{
+    let mut ok = true;
+    for d in 0u32..4 {
+        ok = ok & descriptor_ok(send, DescriptorIndex(d), bytes);
+    }
+    ok
+}

@@ -1,0 +1,63 @@
+// Replies 13 and 14: the sizes of the memories, and whether a machine is sound. Every function here only reads.
+mod descriptors;
+mod lists;
+mod registers;
+
+pub use descriptors::descriptor_at;
+pub use descriptors::go_rule;
+pub use descriptors::is_active;
+pub use descriptors::meta_ok;
+pub use descriptors::metadata_at;
+pub use lists::head_word;
+pub use lists::is_block;
+pub use lists::place_word;
+pub use registers::pcsr0_ok;
+pub use registers::pointer_ok;
+use rules::Refusal;
+use rules::Saved;
+use rules::Verdict;
+ghost use mathlib.Core.Path.{_≡_};
+ghost use lib.ListN.{length};
+ghost use Rattle.rules.specs.Memory.{sizesOk};
+ghost use Rattle.rules.specs.Sound.{soundOk};
+ghost use Rattle.sound.specs.Facts.{Sized};
+ghost use Rattle.sound.specs.Gated.{Gated};
+
+// Each memory has its size, by the four lengths.
+pub fn sizes_ok(send: usize, receive: usize, bytes: usize, notices: usize) -> bool
+    ensures { λ r. ⌜ r ≡ sizesOk send receive bytes notices ⌝ }
+{
+    (send == 1024)
+        & (receive == 2048)
+        & (bytes <= 32768)
+        & (8 <= notices)
+        & (notices <= 2048)
+        & (notices % 8 == 0)
+}
+
+// The machine is sound. The scans wait for the registers and queues, so that none is longer than its queue.
+pub fn sound_ok(s: Saved, send: &[u32], receive: &[u32], bytes: usize, notices: usize) -> bool
+    requires { ⌜ Sized (length (now send)) (length (now receive)) bytes notices ⌝ }
+    ensures { λ r. ⌜ r ≡ soundOk s (now (send .entry)) (now (receive .entry)) bytes notices ⌝ }
+{
+    if !(registers::registers_ok(s) & registers::queues_ok(s)) {
+        return false;
+    }
+    let nbqr = s.nbqr;
+    lists::lists_ok(receive, notices)
+        & lists::waiting_ok(receive, nbqr, notices)
+        & descriptors::descriptors_ok(send, bytes)
+}
+
+// The first two rows of every call: sizes, unsound, or on.
+pub fn gate(s: Saved, send: &[u32], receive: &[u32], bytes: usize, notices: usize) -> Verdict
+    ensures { λ r. ⌜ Gated s (now (send .entry)) (now (receive .entry)) bytes notices r ⌝ }
+{
+    if !sizes_ok(send.len(), receive.len(), bytes, notices) {
+        return Verdict::No(Refusal::Sizes);
+    }
+    if !sound_ok(s, send, receive, bytes, notices) {
+        return Verdict::No(Refusal::Unsound);
+    }
+    Verdict::Go
+}

@@ -1,0 +1,54 @@
+// The numbers of the saved state that have a range.
+use rules::Queue;
+use rules::Saved;
+ghost use mathlib.Core.Path.{_≡_};
+ghost use Prim.Native.Nat.{_≤_};
+ghost use Rattle.rules.specs.Saved.{pcsr0Ok};
+ghost use Rattle.rules.specs.Registers.{pointerOk};
+ghost use Rattle.rules.specs.Sound.{registersOk, queueOk, queuesOk};
+
+// PCSR0 without reserved bits or a node above 4095.
+pub fn pcsr0_ok(w: u32) -> bool
+    ensures { λ r. ⌜ r ≡ pcsr0Ok w ⌝ }
+{
+    (w / 0x10_0000 % 0x400 == 0) & (w % 0x1_0000 <= 4095)
+}
+
+// A pointer into a RAM of so many words.
+pub fn pointer_ok(words: u32, p: u32) -> bool
+    requires { ⌜ words ≤ 2048 ⌝ }
+    ensures { λ r. ⌜ r ≡ pointerOk words p ⌝ }
+{
+    (p % 4 == 0) & (p < 4 * words)
+}
+
+// Every register is in its range.
+pub(crate) fn registers_ok(s: Saved) -> bool
+    ensures { λ r. ⌜ r ≡ registersOk s ⌝ }
+{
+    !(s.pcsr0 / 0x8000_0000 % 2 == 1)
+        & pcsr0_ok(s.pcsr0)
+        & (s.inthi <= 1)
+        & (s.intlo <= 1)
+        & (s.slots <= 64)
+        & pointer_ok(1024, s.sendpointer)
+        & pointer_ok(2048, s.receivepointer)
+        & (s.lastsender < 4)
+}
+
+// A place below 256 and a length of at most 256.
+fn queue_ok(q: Queue) -> bool
+    ensures { λ r. ⌜ r ≡ queueOk q ⌝ }
+{
+    (q.place < 256) & (q.length <= 256)
+}
+
+// NQR, AQR and NBQR.
+pub(crate) fn queues_ok(s: Saved) -> bool
+    ensures { λ r. ⌜ r ≡ queuesOk s ⌝ }
+{
+    let nqr = s.nqr;
+    let aqr = s.aqr;
+    let nbqr = s.nbqr;
+    queue_ok(nqr) & queue_ok(aqr) & queue_ok(nbqr)
+}
