@@ -2,7 +2,7 @@
 use mathlib.Core.Path.{sym, _∙_}
 use native.Mathlib.Omega.{arith}
 use borrow.Author.Needs.{needs}
-use Rattle.ground.proofs.Bytes.{row-byte}
+use Rattle.ground.proofs.Rows.{row-byte}
 use Rattle.words.proofs.get_byte.Statement.{statement}
 use Rattle.words.proofs.get_byte.Tie as tie
 

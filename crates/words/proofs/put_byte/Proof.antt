@@ -1,6 +1,6 @@
 -- `words::put_byte` meets its contract. Assumes nothing.
 use borrow.Author.Needs.{needs}
-use Rattle.ground.proofs.Bytes.{row-set-byte}
+use Rattle.ground.proofs.Rows.{row-set-byte}
 use Rattle.words.proofs.put_byte.Statement.{statement}
 use Rattle.words.proofs.put_byte.Tie as tie
 

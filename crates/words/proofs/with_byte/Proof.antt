@@ -2,7 +2,7 @@
 use mathlib.Core.Path.{_≡_}
 use native.Mathlib.Omega.{arith}
 use borrow.Author.Needs.{needs}
-use Rattle.ground.proofs.Bytes.{byte-set-0, byte-set-1, byte-set-2, byte-set-3}
+use Rattle.ground.proofs.Rows.{byte-set-0, byte-set-1, byte-set-2, byte-set-3}
 use Rattle.words.proofs.with_byte.Statement.{statement}
 use Rattle.words.proofs.with_byte.Tie as tie
 
