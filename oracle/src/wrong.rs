@@ -53,6 +53,8 @@ mistakes! {
         "an AQR entry lacks 2^31";
     AqrFullForgotten, "aqr-full-forgotten",
         "a full AQR does not stall";
+    PostsBeforeAqrFull, "posts-before-aqr-full",
+        "a completion posts its notice before AQR is found full";
     StalledCounts, "stalled-counts",
         "a stalled fault counts as faulted";
     CountsSaturate, "counts-saturate",

@@ -187,7 +187,8 @@ impl Machine {
     fn complete(&mut self, packet: &Packet, index: SlotIndex, slot: &Slot) -> Result<u32, Reply> {
         // stalled: "a needed notice or AQR entry has no room"
         let aqr_full = self.saved.aqr.is_full() && !self.errs(Wrong::AqrFullForgotten);
-        if slot.does_acks() && aqr_full {
+        let ack_stalls = slot.does_acks() && aqr_full;
+        if ack_stalls && !self.errs(Wrong::PostsBeforeAqrFull) {
             return Err(Reply::Stalled);
         }
         let mut interrupts = 0;
@@ -196,6 +197,10 @@ impl Machine {
             let notice = message_notice(packet, slot, self.wrong);
             self.need_post(list, &notice)?;
             interrupts |= self.post(list, &notice);
+        }
+        // Only the mistaken engine comes so far with AQR full.
+        if ack_stalls {
+            return Err(Reply::Stalled);
         }
         if slot.does_acks() {
             interrupts |= self.push_ack(index.number());

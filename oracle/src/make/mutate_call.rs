@@ -13,9 +13,9 @@ use crate::raw::Case;
 use crate::rng::Rng;
 
 pub fn mutate(case: &mut Case, rng: &mut Rng) {
-    match rng.below(13) {
+    match rng.below(14) {
         0 => make_reset(case, rng),
-        1 => {
+        1 | 13 => {
             case.kind = rng.pick(&[0, 6, 7, 255, 256, 257, 259, 0x8000_0001, u32::MAX]);
         }
         2..=4 => {

@@ -90,11 +90,13 @@ impl<W: Write> RawRecorder<W> {
         for _ in 0..rng.pick(&[0, 1, 1, 2, 2]) {
             mutate_deep::mutate(case, rng);
         }
-        let unsound = rng.chance(14);
+        // of an unknown call only these two can be seen
+        let unknown = !(1..=5).contains(&case.kind);
+        let unsound = rng.chance(if unknown { 30 } else { 14 });
         if unsound {
             mutate_unsound::mutate(case, rng);
         }
-        let missized = rng.chance(5);
+        let missized = rng.chance(if unknown { 20 } else { 5 });
         if missized {
             mutate_unsound::missize(case, rng);
         }
