@@ -28,26 +28,14 @@ pub fn next_of(notices: &[u32], b: BlockAddress) -> u32
     notices[block_first(b) + 3]
 }
 
-// Words in a row, from word `at` on.
-pub(crate) fn store_words(to: &mut [u32], at: usize, words: &[u32])
-    requires { ⌜ at + length (now words) ≤ length (now to) ⌝ }
-    ensures { λ _. ⌜ now (to .exit) ≡ sets (now (to .entry)) at (now (words .entry)) ⌝ }
-{
-    let mut i: usize = 0;
-    while i < words.len() {
-        to[at + i] = words[i];
-        i += 1;
-    }
-}
-
 // A notice and its next, in a block.
 pub(crate) fn fill_block(notices: &mut [u32], b: BlockAddress, n: Notice, next: u32)
     requires { ⌜ blockFirst b + 8 ≤ length (now notices) ⌝ }
     ensures { λ _. ⌜ now (notices .exit) ≡ sets (now (notices .entry)) (blockFirst b) (blockWords n next) ⌝ }
 {
     let m = n.metadata;
-    let words = [n.word0, n.word1, n.word2, next, m.a, m.b, m.c, m.d];
-    store_words(notices, block_first(b), &words);
+    let row = [n.word0, n.word1, n.word2, next, m.a, m.b, m.c, m.d];
+    words::store(notices, block_first(b), &row);
 }
 
 // A block's eight words, to the start of a room.
@@ -57,7 +45,7 @@ pub(crate) fn copy_block(notices: &[u32], b: BlockAddress, room: &mut [u32])
 {
     let first = block_first(b);
     let end = first + 8;
-    store_words(room, 0, &notices[first..end]);
+    words::store(room, 0, &notices[first..end]);
 }
 
 // A block on NBQR.

@@ -1,46 +1,12 @@
-// A descriptor's words, and the go rule that register writes and soundness share.
+// The go rule that register writes and soundness share, and which descriptors are active.
 use rules::Descriptor;
 use rules::DescriptorIndex;
-use rules::Metadata;
 ghost use mathlib.Core.Path.{_≡_};
-ghost use Prim.Native.Nat.{_+_, _≤_, _<_};
+ghost use Prim.Native.Nat.{_<_};
 ghost use lib.ListN.{length};
-ghost use Rattle.rules.specs.Memory.{metadataAt};
 ghost use Rattle.rules.specs.Words.{metaOk};
 ghost use Rattle.rules.specs.Sending.{descriptorAt, isActive, addressOk, messageSizeOk, goRule};
 ghost use Rattle.rules.specs.Sound.{descriptorOk, descriptorsOk};
-
-// Four metadata words from word i of a RAM on.
-pub fn metadata_at(ram: &[u32], i: usize) -> Metadata
-    requires { ⌜ i + 4 ≤ length (now ram) ⌝ }
-    ensures { λ r. ⌜ r ≡ metadataAt (now (ram .entry)) i ⌝ }
-{
-    Metadata {
-        a: ram[i],
-        b: ram[i + 1],
-        c: ram[i + 2],
-        d: ram[i + 3],
-    }
-}
-
-// Words 0 to 6 and 8 to 11 of a descriptor.
-pub fn descriptor_at(send: &[u32], d: DescriptorIndex) -> Descriptor
-    requires { ⌜ (d .0 < 4) × (length (now send) ≡ 1024) ⌝ }
-    ensures { λ r. ⌜ r ≡ descriptorAt (now (send .entry)) d ⌝ }
-{
-    let first = 16 * d.0 as usize;
-    let metadata = metadata_at(send, first + 8);
-    Descriptor {
-        msgaddress: send[first],
-        address0: send[first + 1],
-        address1: send[first + 2],
-        control0: send[first + 3],
-        bytestogo: send[first + 4],
-        control1: send[first + 5],
-        status2: send[first + 6],
-        metadata,
-    }
-}
 
 // Go 1 and done 0.
 pub fn is_active(d: Descriptor) -> bool
@@ -93,7 +59,7 @@ fn descriptor_ok(send: &[u32], d: DescriptorIndex, bytes: usize) -> bool
     requires { ⌜ (d .0 < 4) × (length (now send) ≡ 1024) ⌝ }
     ensures { λ r. ⌜ r ≡ descriptorOk bytes (descriptorAt (now (send .entry)) d) ⌝ }
 {
-    let words = descriptor_at(send, d);
+    let words = tables::descriptor_at(send, d);
     !is_active(words) | go_rule(words, words.control1, words.bytestogo, bytes)
 }
 

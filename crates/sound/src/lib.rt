@@ -3,11 +3,9 @@ mod descriptors;
 mod lists;
 mod registers;
 
-pub use descriptors::descriptor_at;
 pub use descriptors::go_rule;
 pub use descriptors::is_active;
 pub use descriptors::meta_ok;
-pub use descriptors::metadata_at;
 pub use lists::head_word;
 pub use lists::is_block;
 pub use lists::place_word;

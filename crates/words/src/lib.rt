@@ -1,4 +1,4 @@
-// "Words are big-endian": words read from bytes and stored in them, copies to a place, and bytes of a row of words.
+// "Words are big-endian": words read from bytes and stored in them, copies to a place, rows of words and their bytes.
 ghost use mathlib.Core.Path.{_≡_};
 ghost use Prim.Native.Nat.{_+_, _*_, _<_, _≤_};
 ghost use lib.ListN.{length, getD, set};
@@ -39,6 +39,18 @@ pub fn copy(to: &mut [u8], at: usize, from: &[u8])
     let mut i = 0;
     while i < from.len() {
         to[at + i] = from[i];
+        i += 1;
+    }
+}
+
+// Words stored in a row of words, from word `at` on.
+pub fn store(to: &mut [u32], at: usize, row: &[u32])
+    requires { ⌜ at + length (now row) ≤ length (now to) ⌝ }
+    ensures { λ _. ⌜ now (to .exit) ≡ sets (now (to .entry)) at (now (row .entry)) ⌝ }
+{
+    let mut i: usize = 0;
+    while i < row.len() {
+        to[at + i] = row[i];
         i += 1;
     }
 }

@@ -1,8 +1,9 @@
--- `sound::descriptors::descriptor_at` meets its contract. Assumes nothing.
+-- `tables::descriptors::descriptor_at` meets its contract. Assumes nothing.
 use borrow.Author.Needs.{needs}
+use mathlib.Core.Path.{refl}
 use Rattle.rules.specs.Sending.{descriptorAt}
-use Rattle.sound.proofs.descriptors.descriptor_at.Statement.{statement}
-use Rattle.sound.proofs.descriptors.descriptor_at.Tie as tie
+use Rattle.tables.proofs.descriptors.descriptor_at.Statement.{statement}
+use Rattle.tables.proofs.descriptors.descriptor_at.Tie as tie
 
 pub descriptor-at-spec : {M : Type 1} → statement M
 unfolding descriptorAt
@@ -12,25 +13,25 @@ descriptor-at-spec =
     (λ c. search needs)
     (λ c. search needs)
     (λ c. search needs)
+    (λ c. search needs)
+    (λ c. search needs)
+    (λ c. search needs)
+    (λ c. search needs)
+    (λ c. search needs)
+    (λ c. search needs)
+    (λ c. search needs)
+    (λ c. search needs)
+    (λ c. search needs)
+    (λ c. search needs)
+    (λ c. search needs)
+    (λ c. search needs)
+    (λ c. search needs)
+    (λ c. search needs)
+    (λ c. search needs)
+    (λ c. search needs)
+    (λ c. search needs)
+    (λ c. search needs)
+    (λ c. search needs)
+    (λ c. search needs)
     (λ c κs. search needs)
-    (λ c. search needs)
-    (λ c. search needs)
-    (λ c. search needs)
-    (λ c. search needs)
-    (λ c. search needs)
-    (λ c. search needs)
-    (λ c. search needs)
-    (λ c. search needs)
-    (λ c. search needs)
-    (λ c. search needs)
-    (λ c. search needs)
-    (λ c. search needs)
-    (λ c. search needs)
-    (λ c. search needs)
-    (λ c. search needs)
-    (λ c. search needs)
-    (λ c. search needs)
-    (λ c. search needs)
-    (λ c. search needs)
-    (λ c. search needs)
-    (λ c. cc))
+    (λ c. rw (c .metadata-at .ensures) refl))

@@ -1,4 +1,4 @@
--- `notices::blocks::store_words` meets its contract. Assumes nothing.
+-- `words::store` meets its contract. Assumes nothing.
 use borrow.Author.Needs.{needs}
 use Prim.Native.Nat.{_+_, _-_, _≤_}
 use mathlib.Core.Path.{_≡_, refl}
@@ -7,17 +7,17 @@ use native.Mathlib.Omega.{arith}
 use lib.ListN.{length, drop, length-set}
 use lib.Seq.{sets}
 use Rattle.ground.proofs.Lists.{sets-more, sets-all}
-use Rattle.notices.proofs.blocks.store_words.Statement.{statement}
-use Rattle.notices.proofs.blocks.store_words.Tie as tie
+use Rattle.words.proofs.store.Statement.{statement}
+use Rattle.words.proofs.store.Tie as tie
 
 abbrev Inv-loop : tie.InvT-loop
-Inv-loop to₀ at words i₀ to i = (i ≤ length words) × (length to ≡ length to₀) × (sets to (at + i) (drop i words) ≡ sets to₀ at words)
+Inv-loop to₀ at row i₀ to i = (i ≤ length row) × (length to ≡ length to₀) × (sets to (at + i) (drop i row) ≡ sets to₀ at row)
 
 abbrev μ-loop : tie.MeasureT-loop
-μ-loop to₀ at words i₀ to i = length words - i
+μ-loop to₀ at row i₀ to i = length row - i
 
-pub store-words-spec : {M : Type 1} → statement M
-store-words-spec =
+pub store-spec : {M : Type 1} → statement M
+store-spec =
     tie.close
     (tie.spec
     Inv-loop

@@ -1,0 +1,50 @@
+// The 64 slots, 16 words each from word 0 of Receive RAM on: their words are read and stored by these two functions alone.
+use crate::metadata_at;
+use rules::Slot;
+use rules::SlotIndex;
+ghost use mathlib.Core.Path.{_≡_};
+ghost use Prim.Native.Nat.{_<_};
+ghost use lib.ListN.{length};
+ghost use Rattle.rules.specs.Slots.{slotAt, storeSlot};
+
+// Words 0 to 11 of a slot.
+pub fn slot_at(receive: &[u32], i: SlotIndex) -> Slot
+    requires { ⌜ (i .0 < 64) × (length (now receive) ≡ 2048) ⌝ }
+    ensures { λ r. ⌜ r ≡ slotAt (now (receive .entry)) i ⌝ }
+{
+    let first = 16 * i.0 as usize;
+    Slot {
+        base: receive[first],
+        size: receive[first + 1],
+        noteandflags: receive[first + 2],
+        bytestogo: receive[first + 3],
+        msgsize: receive[first + 4],
+        msgoffset: receive[first + 5],
+        acknote: receive[first + 6],
+        metaword: receive[first + 7],
+        metadata: metadata_at(receive, first + 8),
+    }
+}
+
+// Words 0 to 11 stored.
+pub fn store_slot(receive: &mut [u32], i: SlotIndex, v: Slot)
+    requires { ⌜ (i .0 < 64) × (length (now receive) ≡ 2048) ⌝ }
+    ensures { λ _. ⌜ now (receive .exit) ≡ storeSlot (now (receive .entry)) i v ⌝ }
+{
+    let m = v.metadata;
+    let row = [
+        v.base,
+        v.size,
+        v.noteandflags,
+        v.bytestogo,
+        v.msgsize,
+        v.msgoffset,
+        v.acknote,
+        v.metaword,
+        m.a,
+        m.b,
+        m.c,
+        m.d,
+    ];
+    words::store(receive, 16 * i.0 as usize, &row);
+}
