@@ -1,0 +1,2 @@
+-- What the steps of a send ask and give. Assumes nothing.
+pub mod Steps
