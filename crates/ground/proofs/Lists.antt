@@ -7,7 +7,7 @@ use native.Mathlib.Numerals.{add-one, add-two, add-three}
 use native.Mathlib.Omega.{arith}
 use lib.ListN.{length, getD, set, take, drop, length-append, length-drop, length-take, length-set, take-append-drop}
 use lib.Seq.{sets, sets-eq, getD-set-same, getD-set-other, getD-take, getD-drop, drop-cons, drop-drop, drop-length, drop-append-le, drop-append-seam}
-use lib.Seq.{drop-at, take-suc, take-suc-set, take-all, take-take, take-add, take-append-le, take-append-seam, length-take-le, set-comm}
+use lib.Seq.{drop-at, take-suc, take-suc-set, take-all, take-take, take-add, take-append-le, take-append-seam, length-take-le, set-comm, set-set}
 use Rattle.ground.specs.Lists.{part, over, putAt}
 
 module _ {A : Type 0} where
@@ -52,6 +52,22 @@ module _ {A : Type 0} where
   sets-swap l i [] j vs h = refl
   sets-swap l i (u ∷ us) j vs h =
       ap (λ (x : List A). sets x (suc i) us) (sym (set-sets l i u j vs (omega arith))) ∙ sets-swap (set l i u) (suc i) us j vs (omega arith)
+
+  -- A store in a run that was stored is a store in what is stored.
+  pub set-in : (l : List A) (i : ℕ) (vs : List A) (j : ℕ) (v : A) → j < length vs → set (sets l i vs) (i + j) v ≡ sets l i (set vs j v)
+  set-in l i [] j v h = absurd (omega arith)
+  set-in l i (x ∷ vs) zero v h =
+      rw (add-zero i)
+      (sets-swap (set l i x) i (v ∷ []) (suc i) vs (omega arith) ∙ ap (λ (t : List A). sets t (suc i) vs) (set-set l i x v))
+  set-in l i (x ∷ vs) (suc j) v h = rw (add-suc i j, ← suc-add i j) (set-in (set l i x) (suc i) vs j v (omega arith))
+
+  -- So is a run of stores in it.
+  pub sets-in : (l : List A) (i : ℕ) (vs : List A) (j : ℕ) (us : List A) → j + length us ≤ length vs
+      → sets (sets l i vs) (i + j) us ≡ sets l i (sets vs j us)
+  sets-in l i vs j [] h = refl
+  sets-in l i vs j (u ∷ us) h =
+      ap (λ (t : List A). sets t (suc (i + j)) us) (set-in l i vs j u (omega arith))
+      ∙ rw (← add-suc i j) (sets-in l i (set vs j u) (suc j) us (omega (arith, length-set vs j u)))
 
   -- A run of stores that fits is what the part at that place comes back as.
   pub sets-put : (l : List A) (i : ℕ) (vs : List A) → i + length vs ≤ length l → sets l i vs ≡ putAt i vs l

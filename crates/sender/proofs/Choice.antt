@@ -126,8 +126,8 @@ module _ (s : Saved) (send receive : List ℕ) (k : ℕ) {r : Found}
     passed e = sym (pick-no _ _ e) ∙ turn
 
 -- What a turn asks.
-pub turn-asks : (s : Saved) (send receive : List ℕ) (k : ℕ) → Choosable s send receive → Askable (descriptor ((s .lastsender + 1 + k) % 4)) send receive
-turn-asks s send receive k p = p .each _ (omega arith)
+pub turn-asks : (s : Saved) (send receive : List ℕ) (n : ℕ) → Choosable s send receive → Askable (descriptor (n % 4)) send receive
+turn-asks s send receive n p = p .each _ (omega arith)
 
 -- ---- what a send does
 

@@ -36,7 +36,7 @@ use Rattle.notices.specs.declared.Step.{Step}
 use Rattle.notices.specs.Steps.{Posts, PostableAll}
 use Rattle.notices.proofs.Facts.{postable-kept}
 use Rattle.sender.specs.declared.acting.Sent.{Sent}
-use Rattle.sender.specs.Steps.{Formable, Forms, Movable, Packable, Packs, SendableFrom, Markable, Sendable, Acts, Marks}
+use Rattle.sender.specs.Steps.{Payload, Formable, Forms, Movable, Packable, Packs, SendableFrom, Markable, Sendable, Acts, Marks}
 
 -- ---- the packet's length
 
@@ -66,7 +66,7 @@ packet-most h m p short =
 -- ---- forming
 
 module _ (node : ℕ) (d : Descriptor) (send bytes room room₂ : List ℕ) (h : Header) (n r : ℕ) (head : h ≡ nextHeader node d)
-    (size : (n ≡ nextPayload d) × (n ≤ 128) × (n ≤ d .bytestogo)) where
+    (size : Payload d n) where
   -- What was formed is the next packet.
   is-next : (p : List ℕ) → p ≡ nextBytes d send bytes → length p ≤ payloadMost → Formed (form h (d .metadata) p) room room₂ r
       → Forms node d send bytes room room₂ r
@@ -78,7 +78,7 @@ module _ (node : ℕ) (d : Descriptor) (send bytes room room₂ : List ℕ) (h :
       → Forms node d send bytes room room₂ r
   unfolding nextBytes
   formed-empty none =
-      let zero : nextPayload d ≡ 0 = sym (size .0) ∙ none in
+      let zero : nextPayload d ≡ 0 = sym (size .next) ∙ none in
       let e : [] ≡ nextBytes d send bytes = rw zero (pick-holds (λ (l : List ℕ). [] ≡ l) (isDirectIo (d .control1)) refl refl) in
       is-next [] e (omega arith)
 
@@ -88,14 +88,14 @@ module _ (node : ℕ) (d : Descriptor) (send bytes room room₂ : List ℕ) (h :
   unfolding nextBytes
   formed-direct e =
       let words : List ℕ = part (d .msgaddress / 4) (n / 4) send in
-      is-next (toBytes words) (rw (size .0) (arm-yes _ e refl)) (omega (arith, row-length words, length-take (n / 4) (drop (d .msgaddress / 4) send)))
+      is-next (toBytes words) (rw (size .next) (arm-yes _ e refl)) (omega (arith, row-length words, length-take (n / 4) (drop (d .msgaddress / 4) send)))
 
   -- Its payload is bytes of data memory.
   pub formed-data : isDirectIo (d .control1) ≡ false → Formed (form h (d .metadata) (part (d .msgaddress) n bytes)) room room₂ r
       → Forms node d send bytes room room₂ r
   unfolding nextBytes
   formed-data e =
-      is-next (part (d .msgaddress) n bytes) (rw (size .0) (arm-no _ e refl)) (omega (arith, length-take n (drop (d .msgaddress) bytes)))
+      is-next (part (d .msgaddress) n bytes) (rw (size .next) (arm-no _ e refl)) (omega (arith, length-take n (drop (d .msgaddress) bytes)))
 
   -- What forming asks, where the payload is not empty.
   module _ (some : n ≢ 0) (ask : Formable node d (length send) (length bytes) (length room)) where
@@ -103,22 +103,22 @@ module _ (node : ℕ) (d : Descriptor) (send bytes room room₂ : List ℕ) (h :
     direct-asks e =
         record {
           roomy = ask .roomy;
-          inside = rw (size .0) (ask .direct (omega arith) e);
-          few = omega arith;
+          inside = rw (size .next) (ask .direct (omega arith) e);
+          few = omega (arith, size .most);
         }
 
     pub data-asks : isDirectIo (d .control1) ≡ false → Forming room bytes (d .msgaddress) n n
-    data-asks e = record { roomy = ask .roomy; inside = rw (size .0) (ask .bytes (omega arith) e); few = size .1 }
+    data-asks e = record { roomy = ask .roomy; inside = rw (size .next) (ask .bytes (omega arith) e); few = size .most }
 
 -- ---- moving on
 
-module _ (d : Descriptor) (n : ℕ) (size : (n ≡ nextPayload d) × (n ≤ 128) × (n ≤ d .bytestogo)) where
+module _ (d : Descriptor) (n : ℕ) (size : Payload d n) where
   -- The address can rise.
   pub address-fits : Movable d → d .msgaddress < 2 ^ 32 → d .msgaddress + n < 2 ^ 32
   address-fits p small = side (decLt 0 n)
     where
       side : Dec (0 < n) → d .msgaddress + n < 2 ^ 32
-      side (yes some) = omega (arith, p .address (omega arith))
+      side (yes some) = omega (arith, p .address (omega (arith, size .next)), size .next)
       side (no none) = omega arith
 
 -- The status after a packet that is not the last, and after the last.
@@ -132,7 +132,7 @@ module _ (d : Descriptor) {last : Bool} {clear : ℕ} (e : last ≡ isLast d) (c
   status-last h q = arm-yes _ (flag-yes e h) (q ∙ ap withDone c)
 
 -- The words after a packet.
-pub moved-on : (d : Descriptor) (n status : ℕ) → (n ≡ nextPayload d) × (n ≤ 128) × (n ≤ d .bytestogo) → d .control0 < 2 ^ 32
+pub moved-on : (d : Descriptor) (n status : ℕ) → Payload d n → d .control0 < 2 ^ 32
     → status ≡ afterPacket d .status2
     → record {
       msgaddress = d .msgaddress + n;
@@ -146,14 +146,14 @@ pub moved-on : (d : Descriptor) (n status : ℕ) → (n ≡ nextPayload d) × (n
     } ≡ afterPacket d
 unfolding afterPacket
 moved-on d n status size fits e =
-    let control0 : d .control0 % 2 ^ 30 + n ≡ without 30 2 (d .control0) + nextPayload d = omega (arith, size .0) in
+    let control0 : d .control0 % 2 ^ 30 + n ≡ without 30 2 (d .control0) + nextPayload d = omega (arith, size .next) in
     λ j.
     record {
-      msgaddress = d .msgaddress + size .0 j;
+      msgaddress = d .msgaddress + size .next j;
       address0 = d .address0;
       address1 = d .address1;
       control0 = control0 j;
-      bytestogo = d .bytestogo - size .0 j;
+      bytestogo = d .bytestogo - size .next j;
       control1 = without 24 4 (d .control1);
       status2 = e j;
       metadata = d .metadata;
@@ -185,9 +185,9 @@ module _ (i : DescriptorIndex) (node : ℕ) (send : List ℕ) {w : Descriptor} (
 -- ---- posting
 
 -- The last sender is not looked at.
-pub post-asks : (i : DescriptorIndex) (s : Saved) (receive : List ℕ) (n : ℕ) {p q : Posting} → q ≡ p → PostableAll s receive n p
-    → PostableAll (withLastSender (i .0) s) receive n q
-post-asks i s receive n e a = record { on = λ l m o. postable-kept n l refl refl refl refl refl (a .on l m (sym e ∙ o)) }
+pub post-asks : (v : ℕ) (s : Saved) (receive : List ℕ) (n : ℕ) {p q : Posting} → q ≡ p → PostableAll s receive n p
+    → PostableAll (withLastSender v s) receive n q
+post-asks v s receive n e a = record { on = λ l m o. postable-kept n l refl refl refl refl refl (a .on l m (sym e ∙ o)) }
 
 -- ---- the send
 

@@ -13,7 +13,7 @@ use Rattle.rules.specs.declared.Answer.{Answer}
 use Rattle.rules.specs.Words.{isDirectIo}
 use Rattle.rules.specs.Memory.{machine, sendSize, receiveSize, descriptors}
 use Rattle.rules.specs.Saved.{ownNode}
-use Rattle.rules.specs.Packet.{packetMost}
+use Rattle.rules.specs.Packet.{payloadMost, packetMost}
 use Rattle.rules.specs.Sending.{descriptorAt, storeDescriptor, isActive, nextPayload, sendPosting, nextPacket, afterPacket}
 use Rattle.rules.specs.Replies.{answered}
 use Rattle.rules.specs.Calls.{actSend}
@@ -36,6 +36,12 @@ pub record Choosable (s : Saved) (send receive : List ℕ) : Type 0 where
   pub each : (i : DescriptorIndex) → i .0 < descriptors → Askable i send receive
 
 -- ---- the packet
+
+-- The payload of a descriptor's next packet: at most 128 bytes, and at most what is left.
+pub record Payload (d : Descriptor) (n : ℕ) : Type 0 where
+  pub next : n ≡ nextPayload d
+  pub most : n ≤ payloadMost
+  pub left : n ≤ d .bytestogo
 
 -- The next packet of a descriptor can be formed: a node's number, a room for any packet, and a payload, if any, that lies in its memory.
 pub record Formable (node : ℕ) (d : Descriptor) (sendLength dataLength room : ℕ) : Type 0 where

@@ -10,14 +10,13 @@ use rules::Saved;
 use sound::is_active;
 use tables::descriptor_at;
 ghost use mathlib.Core.Path.{_≡_};
-ghost use Prim.Native.Nat.{_≤_};
 ghost use lib.ListN.{length};
-ghost use Rattle.rules.specs.Sending.{descriptorAt, nextPayload, isLast, sendPosting, isReady, nextSender, noneActive};
-ghost use Rattle.sender.specs.Steps.{Askable, Choosable};
+ghost use Rattle.rules.specs.Sending.{descriptorAt, isLast, sendPosting, isReady, nextSender, noneActive};
+ghost use Rattle.sender.specs.Steps.{Payload, Askable, Choosable};
 
 // "Payload is the next 128 bytes or the rest; control_pkt sends none."
 pub(crate) fn next_payload(d: Descriptor) -> u32
-    ensures { λ r. ⌜ (r ≡ nextPayload d) × (r ≤ 128) × (r ≤ d .bytestogo) ⌝ }
+    ensures { λ r. ⌜ Payload d r ⌝ }
 {
     if d.control1 / 0x4000_0000 % 2 == 1 {
         0

@@ -9,6 +9,6 @@ pub next-payload-spec : {M : Type 1} → statement M
 next-payload-spec =
     tie.close
     (tie.spec
-    (λ c. (search (none-sent, eq-eqb), omega arith, omega arith))
-    (λ c. (search (rest-sent, ne-eqb), omega arith, omega arith))
-    (λ c. (search (most-sent, ne-eqb), omega arith, omega arith)))
+    (λ c. record { next = search (none-sent, eq-eqb); most = omega arith; left = omega arith })
+    (λ c. record { next = search (rest-sent, ne-eqb); most = omega arith; left = omega arith })
+    (λ c. record { next = search (most-sent, ne-eqb); most = omega arith; left = omega arith }))

@@ -1,0 +1,86 @@
+-- What the functions of the table of steps ask of each other, and how the last of them decides. Assumes nothing.
+use mathlib.Core.Path.{_≡_, refl}
+use mathlib.Core.Bool.{true}
+use mathlib.Core.List.{List}
+use Prim.Native.Nat.{ℕ, _+_, _<_}
+use native.Mathlib.Omega.{arith}
+use borrow.Author.Tests.{ltb-true, lt-ltb, eq-eqb, ne-eqb}
+use lib.Dec.{leb}
+use lib.ListN.{length}
+use Rattle.ground.specs.Choice.{need}
+use Rattle.ground.specs.Field.{field}
+use Rattle.ground.proofs.Choice.{go-on}
+use Rattle.ground.proofs.Tests.{not-yes}
+use Rattle.rules.specs.declared.Packet.{Packet}
+use Rattle.rules.specs.declared.Receipt.{Receipt}
+use Rattle.rules.specs.declared.Saved.{Saved}
+use Rattle.rules.specs.declared.Slot.{Slot}
+use Rattle.rules.specs.declared.SlotIndex.{SlotIndex}
+use Rattle.rules.specs.Words.{dstNode, dstSlot, incarnation, offset}
+use Rattle.rules.specs.Memory.{receiveSize, slotsMost, slot}
+use Rattle.rules.specs.Saved.{ownIncarnation, ownNode}
+use Rattle.rules.specs.Packet.{packetOf, headerChecks, fieldsOk, bodyChecks}
+use Rattle.rules.specs.Slots.{slotAt, slotOk, within24}
+use Rattle.rules.specs.Receipt.{newBytesToGo, receiptOf}
+use Rattle.receiver.specs.Judging.{Judgeable, Addressed, Counting, Decides}
+use Rattle.receiver.proofs.Receipts.{usable, payload-few}
+
+-- The steps before the slot's, from what the code tested.
+pub addressed : (s : Saved) (receive packet : List ℕ) (p : Packet) → Judgeable s receive packet → p ≡ packetOf packet
+    → headerChecks packet ≡ true → fieldsOk p ≡ true → dstNode (p .header .address0) ≡ ownNode (s .pcsr0)
+    → dstSlot (p .header .address1) < s .slots → Addressed s receive packet p
+addressed s receive packet p j fields header zeros node slot =
+    record {
+      judgeable = j;
+      fields = fields;
+      payload = rw fields (payload-few packet (j .sized));
+      header = header;
+      zeros = zeros;
+      node = eq-eqb _ _ node;
+      slot = lt-ltb _ _ slot;
+    }
+
+-- The packet's slot is one of the table.
+pub slot-asks : {s : Saved} {receive packet : List ℕ} {p : Packet} → Addressed s receive packet p
+    → (dstSlot (p .header .address1) < slotsMost) × (length receive ≡ receiveSize)
+slot-asks {s = s} {p = p} a =
+    let low : dstSlot (p .header .address1) < s .slots = ltb-true _ _ (a .slot) in
+    (omega (arith, a .judgeable .slots), a .judgeable .size)
+
+-- A packet with data for a valid slot.
+pub data-asks : {s : Saved} {receive packet : List ℕ} {p : Packet} (v : Slot) (dataLength : ℕ) → Addressed s receive packet p
+    → slotOk v dataLength ≡ true → Counting v packet p
+data-asks v dataLength a ok =
+    record { sized = a .judgeable .sized; countable = record { old = usable v dataLength ok .bytestogo; payload = a .payload } }
+
+-- The steps before those of data, from what the code tested.
+pub decided : (s : Saved) (receive packet : List ℕ) (dataLength : ℕ) (p : Packet) (v : Slot) {r : Receipt} → Addressed s receive packet p
+    → v ≡ slotAt receive (slot (dstSlot (p .header .address1))) → slotOk v dataLength ≡ true
+    → incarnation (p .header .control0) ≡ ownIncarnation (s .pcsr0) → (field 29 1 (p .header .control0) ≡ 1 → ⊥)
+    → Decides (slot (dstSlot (p .header .address1))) v packet p r → r ≡ receiptOf s receive dataLength packet
+decided s receive packet dataLength p v a words valid same plain d =
+    d .decides s receive dataLength
+    (record { addressed = a; slot = refl; words = words; valid = valid; incarnation = eq-eqb _ _ same; plain = ne-eqb _ _ plain })
+
+-- Data's own steps decide, once all before them passed.
+pub data-steps : (i : SlotIndex) (v : Slot) (packet : List ℕ) (p : Packet) {r : Receipt}
+    → r ≡ need (leb (offset (p .header .control0)) (v .size)) (Receipt.Fails 0x1000)
+    (need (leb (offset (p .header .control0) + p .payloadlength) (v .size)) (Receipt.Fails 0x0800)
+    (need (within24 (newBytesToGo p v)) (Receipt.Fails 0x0800)
+    (need (bodyChecks packet) (Receipt.Fails 0x0200)
+    (Receipt.Lands i))))
+    → Decides i v packet p r
+unfolding receiptOf
+data-steps i v packet p e =
+    record {
+      decides = λ s receive n past.
+          let a = past .addressed in
+          rw (← a .fields, ← past .slot, ← past .words)
+          (go-on _ (a .header)
+          (go-on _ (a .zeros)
+          (go-on _ (a .node)
+          (go-on _ (a .slot)
+          (go-on _ (past .valid)
+          (go-on _ (past .incarnation)
+          (go-on _ (not-yes (past .plain)) e)))))));
+    }

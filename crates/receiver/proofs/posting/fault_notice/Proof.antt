@@ -1,0 +1,17 @@
+-- `receiver::posting::fault_notice` meets its contract. Assumes nothing.
+use borrow.Author.Needs.{needs}
+use mathlib.Core.Path.{refl}
+use Rattle.rules.specs.Receipt.{faultNotice}
+use Rattle.receiver.proofs.posting.fault_notice.Statement.{statement}
+use Rattle.receiver.proofs.posting.fault_notice.Tie as tie
+
+pub fault-notice-spec : {M : Type 1} → statement M
+unfolding faultNotice
+fault-notice-spec =
+    tie.close
+    (tie.spec
+    (λ c. search needs)
+    (λ c. search needs)
+    (λ c. search needs)
+    (λ c. search needs)
+    (λ c. refl))

@@ -1,0 +1,84 @@
+-- What judging a packet asks, and what a receipt says of its slot. Assumes nothing.
+use mathlib.Core.Path.{_≡_}
+use mathlib.Core.Bool.{true, false}
+use mathlib.Core.List.{List}
+use Prim.Native.Nat.{ℕ, _+_, _^_, _<_, _≤_}
+use lib.Dec.{eqb, ltb}
+use lib.ListN.{length}
+use Rattle.rules.specs.declared.Packet.{Packet}
+use Rattle.rules.specs.declared.Receipt.{Receipt}
+use Rattle.rules.specs.declared.Saved.{Saved}
+use Rattle.rules.specs.declared.Slot.{Slot}
+use Rattle.rules.specs.declared.SlotIndex.{SlotIndex}
+use Rattle.rules.specs.Words.{dstNode, dstSlot, isAckPkt, incarnation, offset}
+use Rattle.rules.specs.Memory.{receiveSize, slotsMost, slot}
+use Rattle.rules.specs.Saved.{ownIncarnation, ownNode}
+use Rattle.rules.specs.Packet.{packetMost, packetOf, headerChecks, fieldsOk}
+use Rattle.rules.specs.Slots.{slotAt, slotOk, within24}
+use Rattle.rules.specs.Receipt.{newBytesToGo, receiptOf, receiptPosting}
+use Rattle.packet.specs.Packet.{Sized}
+use Rattle.notices.specs.Steps.{Listed}
+use Rattle.receiver.specs.ToGo.{Countable}
+use Rattle.receiver.specs.Acting.{Known}
+
+-- ---- what judging asks
+
+-- A packet that has its length, at a machine that has its sizes and ranges.
+pub record Judgeable (s : Saved) (receive packet : List ℕ) : Type 0 where
+  pub sized : Sized packet
+  pub size : length receive ≡ receiveSize
+  pub slots : s .slots ≤ slotsMost
+
+-- The steps before the slot's passed.
+pub record Addressed (s : Saved) (receive packet : List ℕ) (p : Packet) : Type 0 where
+  pub judgeable : Judgeable s receive packet
+  pub fields : p ≡ packetOf packet
+  pub payload : p .payloadlength ≤ packetMost
+  pub header : headerChecks packet ≡ true
+  pub zeros : fieldsOk p ≡ true
+  pub node : eqb (dstNode (p .header .address0)) (ownNode (s .pcsr0)) ≡ true
+  pub slot : ltb (dstSlot (p .header .address1)) (s .slots) ≡ true
+
+-- Those of the slot's passed too: the packet carries data for slot i.
+pub record Open (s : Saved) (receive : List ℕ) (dataLength : ℕ) (i : SlotIndex) (v : Slot) (packet : List ℕ) (p : Packet) : Type 0 where
+  pub addressed : Addressed s receive packet p
+  pub slot : i ≡ slot (dstSlot (p .header .address1))
+  pub words : v ≡ slotAt receive i
+  pub valid : slotOk v dataLength ≡ true
+  pub incarnation : eqb (incarnation (p .header .control0)) (ownIncarnation (s .pcsr0)) ≡ true
+  pub plain : isAckPkt (p .header .control0) ≡ false
+
+-- What its own steps ask.
+pub record Counting (v : Slot) (packet : List ℕ) (p : Packet) : Type 0 where
+  pub sized : Sized packet
+  pub countable : Countable p v
+
+-- They decide, whatever the saved state and the memories are, where all before them passed.
+pub record Decides (i : SlotIndex) (v : Slot) (packet : List ℕ) (p : Packet) (r : Receipt) : Type 0 where
+  pub decides : (s : Saved) (receive : List ℕ) (dataLength : ℕ) → Open s receive dataLength i v packet p → r ≡ receiptOf s receive dataLength packet
+
+-- ---- what a receipt says
+
+-- A slot below the count, and valid.
+pub record Valid (s : Saved) (receive : List ℕ) (dataLength : ℕ) (i : SlotIndex) : Type 0 where
+  pub low : i .0 < s .slots
+  pub ok : slotOk (slotAt receive i) dataLength ≡ true
+
+-- A packet's data fits in the slot's buffer, and its bytes_to_go in the range.
+pub record Fitting (receive : List ℕ) (p : Packet) (i : SlotIndex) : Type 0 where
+  pub buffer : offset (p .header .control0) + p .payloadlength ≤ slotAt receive i .size
+  pub bytestogo : within24 (newBytesToGo p (slotAt receive i)) ≡ true
+
+-- By what the packet comes to.
+pub record Told (s : Saved) (receive : List ℕ) (dataLength : ℕ) (p : Packet) (r : Receipt) : Type 0 where
+  pub status : (status : ℕ) → r ≡ Receipt.Fails status → status < 2 ^ 16
+  pub acks : (i : SlotIndex) → r ≡ Receipt.Acks i → Valid s receive dataLength i
+  pub lands : (i : SlotIndex) → r ≡ Receipt.Lands i → Valid s receive dataLength i
+  pub fits : (i : SlotIndex) → r ≡ Receipt.Lands i → Fitting receive p i
+
+-- ---- what finding room asks
+
+-- A receipt by the table of steps, and what it posts, if anything, is on one of the 64 lists.
+pub record Answerable (receive : List ℕ) (p : Packet) (r : Receipt) : Type 0 where
+  pub known : Known receive p r
+  pub listed : Listed (receiptPosting receive p r)

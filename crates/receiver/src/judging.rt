@@ -1,0 +1,53 @@
+// What a receive does: what its packet comes to, or why it is refused.
+use crate::first_failure;
+use crate::posting;
+use packet::read;
+use rules::Packet;
+use rules::Receipt;
+use rules::Receiving;
+use rules::Refusal;
+use rules::Saved;
+use rules::Verdict;
+ghost use mathlib.Core.Path.{_≡_};
+ghost use Rattle.rules.specs.Memory.{machine};
+ghost use Rattle.rules.specs.Receipt.{hasRoomFor};
+ghost use Rattle.rules.specs.Calls.{judgeReceive};
+ghost use Rattle.receiver.specs.Judging.{Answerable};
+
+// Whether a receipt's notice can be posted and its AQR entry pushed; else stalled.
+fn has_room_for(s: Saved, receive: &[u32], p: Packet, r: Receipt) -> bool
+    requires { ⌜ Answerable (now receive) p r ⌝ }
+    ensures { λ o. ⌜ o ≡ hasRoomFor s (now (receive .entry)) p r ⌝ }
+{
+    let aqr = s.aqr;
+    let notice = posting::receipt_posting(receive, p, r);
+    let entry = posting::needs_aqr(receive, p, r);
+    notices::can_post_all(s, receive, notice) & (!entry | (aqr.length < 256))
+}
+
+// What a receive of a packet does, by the table's rows in their order.
+pub fn judge_receive(
+    s: Saved,
+    send: &[u32],
+    receive: &[u32],
+    bytes: &[u8],
+    notices: &[u32],
+    packet: &[u8],
+) -> Receiving
+    ensures { λ r. ⌜ r ≡ judgeReceive (machine s (now (send .entry)) (now (receive .entry)) (now (bytes .entry)) (now (notices .entry))) (now (packet .entry)) ⌝ }
+{
+    if let Verdict::No(why) = sound::gate(s, send, receive, bytes.len(), notices.len()) {
+        return Receiving::No(why);
+    }
+    if s.pcsr0 / 0x4000_0000 % 2 != 1 {
+        return Receiving::No(Refusal::Off);
+    }
+    if !read::is_packet(packet) {
+        return Receiving::No(Refusal::NoPacket);
+    }
+    let receipt = first_failure::receipt_of(s, receive, bytes.len(), packet);
+    if !has_room_for(s, receive, read::fields(packet), receipt) {
+        return Receiving::No(Refusal::Stalled);
+    }
+    Receiving::ComesTo(receipt)
+}

@@ -1,0 +1,184 @@
+-- What a write stores, put together from what the code reads and stores. Assumes nothing.
+use mathlib.Core.Path.{_≡_, refl, sym, ap, _∙_}
+use mathlib.Core.List.{List, [], _∷_}
+use mathlib.Core.Logic.{_≢_}
+use Prim.Native.Nat.{ℕ, _+_, _*_, _<_}
+use native.Mathlib.Numerals.{towards-suc}
+use native.Mathlib.Omega.{arith}
+use lib.ListN.{length, set, length-set}
+use lib.Seq.{sets, set-getD}
+use Rattle.ground.proofs.Lists.{set-in, sets-in}
+use Rattle.rules.specs.declared.BlockAddress.{BlockAddress}
+use Rattle.rules.specs.declared.Descriptor.{Descriptor}
+use Rattle.rules.specs.declared.DescriptorIndex.{DescriptorIndex}
+use Rattle.rules.specs.declared.ListIndex.{ListIndex}
+use Rattle.rules.specs.declared.Number.{Number}
+use Rattle.rules.specs.declared.ReceiveStore.{ReceiveStore}
+use Rattle.rules.specs.declared.Saved.{Saved}
+use Rattle.rules.specs.declared.SendStore.{SendStore}
+use Rattle.rules.specs.declared.Slot.{Slot}
+use Rattle.rules.specs.declared.SlotIndex.{SlotIndex}
+use Rattle.rules.specs.Memory.{slotFirst, slotWord, headWord, placeWord, noMetadata, metadataWords}
+use Rattle.rules.specs.Slots.{slotAt, storeSlot}
+use Rattle.rules.specs.Sending.{descriptorAt, storeDescriptor, started}
+use Rattle.rules.specs.Writes.{numberSet, sendStored, receiveStored}
+use Rattle.registers.specs.Writing.{InSend, InReceive, PlainWord, HasWord, HasWord2}
+
+-- ---- slots
+
+-- A slot's twelve words.
+abbrev slotWords : Slot → List ℕ
+slotWords x =
+    x .base ∷ x .size ∷ x .noteandflags ∷ x .bytestogo ∷ x .msgsize ∷ x .msgoffset ∷ x .acknote ∷ x .metaword ∷ metadataWords (x .metadata)
+
+-- A slot that is stored where it was read changes nothing.
+store-read : (receive : List ℕ) (i : SlotIndex) → storeSlot receive i (slotAt receive i) ≡ receive
+unfolding storeSlot slotAt
+store-read receive i = simp (towards-suc, set-getD)
+
+-- The slot with other words 0, 1 and 6.
+abbrev withPlain : ℕ → ℕ → ℕ → Slot → Slot
+withPlain base size acknote x =
+    record {
+      base = base;
+      size = size;
+      noteandflags = x .noteandflags;
+      bytestogo = x .bytestogo;
+      msgsize = x .msgsize;
+      msgoffset = x .msgoffset;
+      acknote = acknote;
+      metaword = x .metaword;
+      metadata = x .metadata;
+    }
+
+module _ (x : Slot) (k v : ℕ) where
+  -- A slot whose row has v in word j.
+  has-word : (y : Slot) (j : ℕ) → k ≡ j → j < 12 → set (slotWords x) j v ≡ slotWords y → HasWord k v x y
+  unfolding storeSlot receiveStored
+  has-word y j e low row =
+      record {
+        whole = λ receive i. rw e (ap (sets receive (slotFirst i)) (sym row) ∙ sym (set-in receive (slotFirst i) (slotWords x) j v low));
+      }
+
+  pub has-base : k ≡ 0 → HasWord k v x (withPlain v (x .size) (x .acknote) x)
+  has-base e = has-word _ 0 e (omega arith) refl
+
+  pub has-size : k ≡ 1 → HasWord k v x (withPlain (x .base) v (x .acknote) x)
+  has-size e = has-word _ 1 e (omega arith) refl
+
+  pub has-acknote : PlainWord k → k ≢ 0 → k ≢ 1 → HasWord k v x (withPlain (x .base) (x .size) v x)
+  has-acknote p h g = has-word _ 6 (p .other h g) (omega arith) refl
+
+-- Word 2, with the words that go to 0.
+pub has-word2 : (x : Slot) (v : ℕ)
+    → HasWord2 v x
+    (record {
+      base = x .base;
+      size = x .size;
+      noteandflags = v;
+      bytestogo = 0;
+      msgsize = 0;
+      msgoffset = 0;
+      acknote = x .acknote;
+      metaword = 0;
+      metadata = noMetadata;
+    })
+unfolding storeSlot receiveStored
+has-word2 x v =
+    let low : List ℕ = v ∷ 0 ∷ 0 ∷ 0 ∷ [] in
+    let high : List ℕ = 0 ∷ 0 ∷ 0 ∷ 0 ∷ 0 ∷ [] in
+    record {
+      whole =
+          λ receive i.
+          let one = sets-in receive (slotFirst i) (slotWords x) 2 low (omega arith) in
+          let two = sets-in receive (slotFirst i) (sets (slotWords x) 2 low) 7 high (omega arith) in
+          sym (ap (λ (t : List ℕ). sets t (slotWord i 7) high) one ∙ two);
+    }
+
+-- A slot that was read is what stands there.
+stands : (receive : List ℕ) (i : SlotIndex) {x : Slot} → x ≡ slotAt receive i → storeSlot receive i x ≡ receive
+stands receive i e = ap (storeSlot receive i) e ∙ store-read receive i
+
+-- A slot that is read, rewritten and stored.
+module _ (receive receive₂ : List ℕ) (i : SlotIndex) (v : ℕ) {x y : Slot} (e : x ≡ slotAt receive i) where
+  pub slot-word-stored : (k : ℕ) → HasWord k v x y → receive₂ ≡ storeSlot receive i y → receive₂ ≡ receiveStored (ReceiveStore.SlotWord i k) v receive
+  slot-word-stored k h stored = stored ∙ h .whole receive i ∙ ap (receiveStored (ReceiveStore.SlotWord i k) v) (stands receive i e)
+
+  pub slot-word2-stored : HasWord2 v x y → receive₂ ≡ storeSlot receive i y → receive₂ ≡ receiveStored (ReceiveStore.SlotWord2 i) v receive
+  slot-word2-stored h stored = stored ∙ h .whole receive i ∙ ap (receiveStored (ReceiveStore.SlotWord2 i) v) (stands receive i e)
+
+-- ---- lists
+
+module _ (receive : List ℕ) (l : ListIndex) (v : ℕ) {head : ℕ} (h : head ≡ headWord l) where
+  pub token-stored : set receive (head + 1) v ≡ receiveStored (ReceiveStore.ListToken l) v receive
+  unfolding receiveStored
+  token-stored = rw h
+
+  -- The place is stored after the head.
+  pub place-asks : (b place : ℕ) → place ≡ placeWord l → l .0 < 64 → length receive ≡ 2048 → place < length (set receive head b)
+  place-asks b place p low size = simp length-set (omega arith)
+
+  pub first-block-stored : (b : BlockAddress) (place : ℕ) → place ≡ placeWord l
+      → set (set receive head (b .0)) place (b .0) ≡ receiveStored (ReceiveStore.FirstBlock l b) v receive
+  unfolding receiveStored
+  first-block-stored b place p = rw (h, p)
+
+-- ---- Receive RAM by its stores
+
+module _ {x : ReceiveStore} (n : ℕ) (p : InReceive x n) where
+  pub slot-low : (i : SlotIndex) (k : ℕ) → x ≡ ReceiveStore.SlotWord i k → i .0 < 64
+  slot-low i k is = (rw is at (p .holds)) .0
+
+  pub slot-plain : (i : SlotIndex) (k : ℕ) → x ≡ ReceiveStore.SlotWord i k → PlainWord k
+  slot-plain i k is = (rw is at (p .holds)) .1
+
+  pub slot2-low : (i : SlotIndex) → x ≡ ReceiveStore.SlotWord2 i → i .0 < 64
+  slot2-low i is = rw is at (p .holds)
+
+  pub first-low : (l : ListIndex) (b : BlockAddress) → x ≡ ReceiveStore.FirstBlock l b → l .0 < 64
+  first-low l b is = rw is at (p .holds)
+
+  pub token-low : (l : ListIndex) → x ≡ ReceiveStore.ListToken l → l .0 < 64
+  token-low l is = rw is at (p .holds)
+
+pub by-receive-store : (receive receive₂ : List ℕ) (v : ℕ) {x y : ReceiveStore} → x ≡ y → receive₂ ≡ receiveStored y v receive
+    → receive₂ ≡ receiveStored x v receive
+by-receive-store receive receive₂ v is e = e ∙ ap (λ (z : ReceiveStore). receiveStored z v receive) (sym is)
+
+-- ---- Send RAM by its stores
+
+module _ {x : SendStore} (n : ℕ) (p : InSend x n) where
+  pub direct-asks : (i : ℕ) → x ≡ SendStore.DirectWord i → i < n
+  direct-asks i is = let low : i < 1024 = rw is at (p .holds) in omega (arith, p .size)
+
+  pub word-asks : (d : DescriptorIndex) (k : ℕ) → x ≡ SendStore.Word d k → 16 * d .0 + k < n
+  word-asks d k is =
+      let low : (d .0 < 4) × (k < 16) = rw is at (p .holds) in
+      omega (arith, low .0, low .1, p .size)
+
+  pub start-low : (d : DescriptorIndex) → x ≡ SendStore.Start d → d .0 < 4
+  start-low d is = rw is at (p .holds)
+
+module _ (send : List ℕ) (v : ℕ) {x : SendStore} where
+  pub direct-stored : (i : ℕ) → x ≡ SendStore.DirectWord i → set send i v ≡ sendStored x v send
+  unfolding sendStored
+  direct-stored i is = rw is
+
+  pub word-stored : (d : DescriptorIndex) (k : ℕ) → x ≡ SendStore.Word d k → set send (16 * d .0 + k) v ≡ sendStored x v send
+  unfolding sendStored
+  word-stored d k is = rw is
+
+  pub start-stored : (d : DescriptorIndex) (send₂ : List ℕ) → x ≡ SendStore.Start d → send₂ ≡ sendStored (SendStore.Start d) v send
+      → send₂ ≡ sendStored x v send
+  start-stored d send₂ is e = rw is e
+
+-- A descriptor that is read, started and stored.
+pub started-stored : (send send₂ : List ℕ) (d : DescriptorIndex) (v : ℕ) {x y : Descriptor} → x ≡ descriptorAt send d → y ≡ started v x
+    → send₂ ≡ storeDescriptor send d y → send₂ ≡ sendStored (SendStore.Start d) v send
+unfolding sendStored
+started-stored send send₂ d v e f stored = stored ∙ rw (f, e)
+
+-- ---- the saved state
+
+pub by-number-set : (v : ℕ) (s : Saved) {x y : Number} {r : Saved} → x ≡ y → r ≡ numberSet y v s → r ≡ numberSet x v s
+by-number-set v s is e = e ∙ ap (λ (z : Number). numberSet z v s) (sym is)

@@ -1,0 +1,156 @@
+// What a write of a word of the RAMs does, or why it is refused. Every function here only reads.
+use notices::next_of;
+use rules::BlockAddress;
+use rules::Descriptor;
+use rules::DescriptorIndex;
+use rules::ListIndex;
+use rules::ReceivePart;
+use rules::ReceiveStore;
+use rules::Refusal;
+use rules::SendPart;
+use rules::SendStore;
+use rules::SlotIndex;
+use rules::Writing;
+use sound::go_rule;
+use sound::head_word;
+use sound::is_active;
+use sound::is_block;
+use tables::descriptor_at;
+ghost use mathlib.Core.Path.{_≡_};
+ghost use Prim.Native.Nat.{ℕ, _<_};
+ghost use mathlib.Core.Bool.{false};
+ghost use mathlib.Core.List.{List};
+ghost use lib.ListN.{length};
+ghost use Rattle.rules.specs.Memory.{sendPart, receivePart, isFreeBlock};
+ghost use Rattle.rules.specs.Sending.{descriptorAt};
+ghost use Rattle.rules.specs.Writes.{descriptorWordFixed, judgeSendWord, judgeReceiveWord};
+
+// A block address whose next word is 0.
+pub(crate) fn is_free_block(notices: &[u32], a: u32) -> bool
+    ensures { λ r. ⌜ r ≡ isFreeBlock (now (notices .entry)) a ⌝ }
+{
+    if !is_block(notices.len(), a) {
+        return false;
+    }
+    next_of(notices, BlockAddress(a)) == 0
+}
+
+// What word i of Send RAM is.
+fn send_part(i: u32) -> SendPart
+    ensures { λ r. ⌜ r ≡ sendPart i ⌝ }
+{
+    if i < 64 {
+        return SendPart::OfDescriptor(DescriptorIndex(i / 16), i % 16);
+    }
+    SendPart::Direct(i)
+}
+
+// What word i of Receive RAM is.
+fn receive_part(i: u32) -> ReceivePart
+    ensures { λ r. ⌜ r ≡ receivePart i ⌝ }
+{
+    if i < 1024 {
+        return ReceivePart::OfSlot(SlotIndex(i / 16), i % 16);
+    }
+    if 1152 <= i {
+        return ReceivePart::Fixed;
+    }
+    if i % 2 == 0 {
+        return ReceivePart::Head(ListIndex((i - 1024) / 2));
+    }
+    ReceivePart::Token(ListIndex((i - 1024) / 2))
+}
+
+// A descriptor's word that is not read-only, by the descriptor's words.
+fn judge_open_word(words: Descriptor, bytes: usize, d: DescriptorIndex, k: u32, v: u32) -> Writing
+    requires { ⌜ descriptorWordFixed k ≡ false ⌝ }
+    ensures { λ r. ⌜ ((send : List ℕ) → words ≡ descriptorAt send d → r ≡ judgeSendWord send bytes (SendPart.OfDescriptor d k) v) ⌝ }
+{
+    let go = v / 0x1000_0000 % 2 == 1;
+    if !(!is_active(words) | ((k == 5) & !go)) {
+        return Writing::No(Refusal::Active);
+    }
+    if !(!((k == 5) & go) | go_rule(words, v, v % 0x100_0000, bytes)) {
+        return Writing::No(Refusal::BadValue);
+    }
+    if (k == 5) & go {
+        return Writing::StoresSend(SendStore::Start(d));
+    }
+    Writing::StoresSend(SendStore::Word(d, k))
+}
+
+// A descriptor's word.
+fn judge_descriptor_word(send: &[u32], bytes: usize, d: DescriptorIndex, k: u32, v: u32) -> Writing
+    requires { ⌜ (d .0 < 4) × (length (now send) ≡ 1024) ⌝ }
+    ensures { λ r. ⌜ r ≡ judgeSendWord (now (send .entry)) bytes (SendPart.OfDescriptor d k) v ⌝ }
+{
+    if (k == 4) | (k == 6) | (k == 7) | (12 <= k) {
+        return Writing::No(Refusal::ReadOnly);
+    }
+    let words = descriptor_at(send, d);
+    judge_open_word(words, bytes, d, k, v)
+}
+
+// Word i of Send RAM.
+pub(crate) fn judge_send_word(send: &[u32], bytes: usize, i: u32, v: u32) -> Writing
+    requires { ⌜ length (now send) ≡ 1024 ⌝ }
+    ensures { λ r. ⌜ r ≡ judgeSendWord (now (send .entry)) bytes (sendPart i) v ⌝ }
+{
+    let part = send_part(i);
+    match part {
+        SendPart::OfDescriptor(d, k) => judge_descriptor_word(send, bytes, d, k, v),
+        SendPart::Direct(at) => Writing::StoresSend(SendStore::DirectWord(at)),
+    }
+}
+
+// A slot's word.
+fn judge_slot_word(i: SlotIndex, k: u32, v: u32) -> Writing
+    ensures { λ r. ⌜ ((receive notices : List ℕ) → r ≡ judgeReceiveWord receive notices (ReceivePart.OfSlot i k) v) ⌝ }
+{
+    if !((k == 0) | (k == 1) | (k == 2) | (k == 6)) {
+        return Writing::No(Refusal::ReadOnly);
+    }
+    if k == 2 {
+        return Writing::StoresReceive(ReceiveStore::SlotWord2(i));
+    }
+    Writing::StoresReceive(ReceiveStore::SlotWord(i, k))
+}
+
+// A list's head.
+fn judge_head(receive: &[u32], notices: &[u32], l: ListIndex, v: u32) -> Writing
+    requires { ⌜ (l .0 < 64) × (length (now receive) ≡ 2048) ⌝ }
+    ensures { λ r. ⌜ r ≡ judgeReceiveWord (now (receive .entry)) (now (notices .entry)) (ReceivePart.Head l) v ⌝ }
+{
+    let head = receive[head_word(l)];
+    if head != 0 {
+        return Writing::No(Refusal::ReadOnly);
+    }
+    if !is_free_block(notices, v) {
+        return Writing::No(Refusal::BadValue);
+    }
+    Writing::StoresReceive(ReceiveStore::FirstBlock(l, BlockAddress(v)))
+}
+
+// A list's token.
+fn judge_token(l: ListIndex, v: u32) -> Writing
+    ensures { λ r. ⌜ ((receive notices : List ℕ) → r ≡ judgeReceiveWord receive notices (ReceivePart.Token l) v) ⌝ }
+{
+    if (v % 2 == 1) & (v / 2 % 0x8000_0000 == 0) {
+        return Writing::No(Refusal::BadValue);
+    }
+    Writing::StoresReceive(ReceiveStore::ListToken(l))
+}
+
+// Word i of Receive RAM.
+pub(crate) fn judge_receive_word(receive: &[u32], notices: &[u32], i: u32, v: u32) -> Writing
+    requires { ⌜ length (now receive) ≡ 2048 ⌝ }
+    ensures { λ r. ⌜ r ≡ judgeReceiveWord (now (receive .entry)) (now (notices .entry)) (receivePart i) v ⌝ }
+{
+    let part = receive_part(i);
+    match part {
+        ReceivePart::OfSlot(i, k) => judge_slot_word(i, k, v),
+        ReceivePart::Head(l) => judge_head(receive, notices, l, v),
+        ReceivePart::Token(l) => judge_token(l, v),
+        ReceivePart::Fixed => Writing::No(Refusal::ReadOnly),
+    }
+}
