@@ -1,0 +1,27 @@
+// The receive.
+use crate::refusing::refuse;
+use rules::Answer;
+use rules::Receiving;
+use rules::Saved;
+ghost use mathlib.Core.List.{[]};
+ghost use mathlib.Core.Path.{_≡_};
+ghost use Rattle.rules.specs.Memory.{machine};
+ghost use Rattle.rules.specs.Replies.{answered};
+ghost use Rattle.rules.specs.Calls.{receiveCall};
+
+// A receipt of a packet.
+pub fn receive(
+    s: Saved,
+    send: &[u32],
+    receive: &mut [u32],
+    bytes: &mut [u8],
+    notices: &mut [u32],
+    packet: &[u8],
+) -> Answer
+    ensures { λ r. ⌜ answered r (now (send .entry)) (now (receive .exit)) (now (bytes .exit)) (now (notices .exit)) [] ≡ receiveCall (machine s (now (send .entry)) (now (receive .entry)) (now (bytes .entry)) (now (notices .entry))) (now (packet .entry)) ⌝ }
+{
+    match receiver::judge_receive(s, send, receive, bytes, notices, packet) {
+        Receiving::No(why) => refuse(s, why),
+        Receiving::ComesTo(r) => receiver::act_receive(r, s, receive, bytes, notices, packet),
+    }
+}
