@@ -1,0 +1,82 @@
+// A record's kind, and the call that it asks for.
+use rules::Answer;
+use rules::Saved;
+ghost use mathlib.Core.Path.{_≡_};
+ghost use lib.ListN.{length};
+ghost use Rattle.rules.specs.Memory.{machine};
+ghost use Rattle.rules.specs.Station.{recordSize, kindOf};
+ghost use Rattle.records.specs.Records.{PacketTo, outcomeOf, Gives};
+
+// The kind, byte 0. "A torn last record is kind 0, length ignored."
+pub fn kind_of(record: &[u8]) -> u8
+    ensures { λ r. ⌜ r ≡ kindOf (now («record» .entry)) ⌝ }
+{
+    if record.len() == 192 { record[0] } else { 0 }
+}
+
+// Where a whole record's packet ends.
+fn packet_end(record: &[u8]) -> usize
+    requires { ⌜ length (now «record») ≡ recordSize ⌝ }
+    ensures { λ r. ⌜ PacketTo (now («record» .entry)) r ⌝ }
+{
+    let n = words::get(record, 12);
+    if n <= 168 { 16 + n as usize } else { 16 }
+}
+
+// The call that a whole record asks for.
+fn call_whole(
+    s: Saved,
+    send: &mut [u32],
+    receive: &mut [u32],
+    bytes: &mut [u8],
+    notices: &mut [u32],
+    record: &[u8],
+) -> Answer
+    requires { ⌜ length (now «record») ≡ recordSize ⌝ }
+    ensures { λ r. ⌜ Gives (outcomeOf (machine s (now (send .entry)) (now (receive .entry)) (now (bytes .entry)) (now (notices .entry))) (now («record» .entry))) r (now (send .exit)) (now (receive .exit)) (now (bytes .exit)) (now (notices .exit)) ⌝ }
+{
+    let first = words::get(record, 4);
+    match record[0] {
+        1 => engine::write(
+            s,
+            send,
+            receive,
+            bytes,
+            notices,
+            first,
+            words::get(record, 8),
+        ),
+        2 => engine::read(s, send, receive, bytes, notices, first),
+        3 => {
+            let end = packet_end(record);
+            engine::receive(s, send, receive, bytes, notices, &record[16..end])
+        }
+        4 => {
+            let mut room = [0u8; 168];
+            engine::send(s, send, receive, bytes, notices, first == 1, &mut room)
+        }
+        5 => {
+            let mut room = [0u32; 8];
+            engine::take(s, send, receive, bytes, notices, first, &mut room)
+        }
+        _ => engine::unknown(s, send, receive, bytes, notices),
+    }
+}
+
+// The call that a record asks for; a torn one asks for none that is known.
+pub fn call(
+    s: Saved,
+    send: &mut [u32],
+    receive: &mut [u32],
+    bytes: &mut [u8],
+    notices: &mut [u32],
+    record: &[u8],
+) -> Answer
+    ensures { λ r. ⌜ Gives (outcomeOf (machine s (now (send .entry)) (now (receive .entry)) (now (bytes .entry)) (now (notices .entry))) (now («record» .entry))) r (now (send .exit)) (now (receive .exit)) (now (bytes .exit)) (now (notices .exit)) ⌝ }
+{
+    if record.len() == 192 {
+        call_whole(s, send, receive, bytes, notices, record)
+    } else {
+        engine::unknown(s, send, receive, bytes, notices)
+    }
+}
