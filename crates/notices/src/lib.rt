@@ -5,9 +5,7 @@ mod taking;
 
 pub use blocks::next_of;
 pub use blocks::push_nbqr;
-pub use posting::can_post;
 pub use posting::can_post_all;
-pub use posting::post;
 pub use posting::post_all;
 pub use posting::push_aqr;
 use rules::Saved;

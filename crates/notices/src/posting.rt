@@ -19,7 +19,7 @@ ghost use Rattle.rules.specs.Notices as rule;
 ghost use Rattle.notices.specs.Steps.{Pushable, Pushes, Does, Posts, Enqueues, Postable, Listed, PostableAll};
 
 // Whether a list can be posted to: a set head, a waiting block, and room for the token where it is pushed.
-pub fn can_post(s: Saved, receive: &[u32], l: ListIndex) -> bool
+fn can_post(s: Saved, receive: &[u32], l: ListIndex) -> bool
     requires { ⌜ (l .0 < 64) × (length (now receive) ≡ 2048) ⌝ }
     ensures { λ r. ⌜ r ≡ canPost s (now (receive .entry)) l ⌝ }
 {
@@ -142,7 +142,7 @@ fn fill_head(l: ListIndex, n: Notice, s: Saved, receive: &mut [u32], notices: &m
 }
 
 // A posting on a list that can be posted to.
-pub fn post(l: ListIndex, n: Notice, s: Saved, receive: &mut [u32], notices: &mut [u32]) -> Step
+fn post(l: ListIndex, n: Notice, s: Saved, receive: &mut [u32], notices: &mut [u32]) -> Step
     requires { ⌜ Postable s (now receive) (length (now notices)) l ⌝ }
     ensures { λ r. ⌜ Posts (rule.post l n) 6 s (now (receive .entry)) (now (notices .entry)) r (now (receive .exit)) (now (notices .exit)) ⌝ }
 {

@@ -10,7 +10,5 @@ mod storing;
 pub use acting::act_write;
 pub use judging::judge_write;
 pub use map::decode;
-pub use map::reach;
-pub use map::stepped;
 pub use reading::act_read;
 pub use reading::judge_read;

@@ -46,7 +46,7 @@ fn paged_word(p: u32, low: u32) -> u32
 }
 
 // What an access reaches.
-pub fn reach(s: Saved, r: Mapped) -> Reach
+pub(crate) fn reach(s: Saved, r: Mapped) -> Reach
     ensures { λ v. ⌜ v ≡ rule.reach s r ⌝ }
 {
     match r {
@@ -63,7 +63,7 @@ pub fn reach(s: Saved, r: Mapped) -> Reach
 }
 
 // The saved state after an access that is carried out: a step moves its pointer on, to 0 after the last word.
-pub fn stepped(r: Mapped, s: Saved) -> Saved
+pub(crate) fn stepped(r: Mapped, s: Saved) -> Saved
     ensures { λ t. ⌜ t ≡ rule.stepped r s ⌝ }
 {
     let mut saved = s;

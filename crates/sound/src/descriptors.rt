@@ -16,7 +16,7 @@ pub fn is_active(d: Descriptor) -> bool
 }
 
 // meta_cnt at most 4, and 0 without meta_data.
-pub fn meta_ok(control1: u32) -> bool
+fn meta_ok(control1: u32) -> bool
     ensures { λ r. ⌜ r ≡ metaOk control1 ⌝ }
 {
     (control1 / 0x100_0000 % 8 <= 4)

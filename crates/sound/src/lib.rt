@@ -5,7 +5,6 @@ mod registers;
 
 pub use descriptors::go_rule;
 pub use descriptors::is_active;
-pub use descriptors::meta_ok;
 pub use lists::head_word;
 pub use lists::is_block;
 pub use lists::place_word;
