@@ -1,4 +1,8 @@
 // The calls for C and Rust: plain slices and numbers, the saved state in 15 lent words, the answer in 3 (reply number, value, interrupts).
 // A saved slice of another length, or an answer of fewer words, is answered 13 (sizes), and nothing is written.
+mod read;
+mod receive;
+mod send;
 mod take;
 mod words;
+mod write;

@@ -1,0 +1,25 @@
+-- `boundary::receive::valmthosh_receive` meets its contract. Assumes nothing.
+use borrow.Author.Needs.{needs}
+use Rattle.boundary.proofs.Ending.{other-saved, short-answer, ends}
+use Rattle.boundary.proofs.receive.valmthosh_receive.Statement.{statement}
+use Rattle.boundary.proofs.receive.valmthosh_receive.Tie as tie
+
+pub valmthosh-receive-spec : {M : Type 1} → statement M
+valmthosh-receive-spec =
+    tie.close
+    (tie.spec
+    (λ c. other-saved _ _ (c .if1 .taken))
+    (λ c. short-answer _ _ (c .if2 .taken))
+    (λ c κs. search needs)
+    (λ c κs. search needs)
+    (λ c κs. search needs)
+    (λ c. search needs)
+    (λ c. search needs)
+    (λ c. search needs)
+    (λ c. search needs)
+    (λ c. search needs)
+    (λ c.
+    let ended = c .before .before .before .before in
+    let called = ended .before .before .before .before .before .before .before .before .before in
+    let loaded = called .before .before .before .before in
+    ends _ _ (search needs) (loaded .load .ensures) (called .receive .ensures) (ended .finish .ensures)))
