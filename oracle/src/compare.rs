@@ -6,7 +6,7 @@ use crate::call::Rooms;
 use crate::engine::{Machine, Saved};
 use crate::explain;
 use crate::names;
-use crate::raw::Case;
+use crate::raw::{words_for, Case};
 use crate::station::{call_of, line, Records};
 
 /// The first line that differs; `None` if none does.
@@ -82,9 +82,9 @@ fn output_place(case: &Case, word: usize) -> String {
         (Saved::WORDS, &saved),
         (machine.send_ram.len(), &names::send_word),
         (machine.receive_ram.len(), &names::receive_word),
-        (machine.data.len().div_ceil(4), &data),
+        (words_for(machine.data.len()), &data),
         (machine.notices.len(), &names::notice_word),
-        (case.rooms.packet.len().div_ceil(4), &packet),
+        (words_for(case.rooms.packet.len()), &packet),
         (case.rooms.notice.len(), &notice),
     ];
     let mut rest = word;

@@ -91,8 +91,9 @@ fn call_in_words(call: &Call, machine: &Machine) -> String {
 
 fn packet_in_words(bytes: &[u8]) -> String {
     let mut text = format!("receive {} bytes\n", bytes.len());
-    let (Some(packet), Some(draft)) = (Packet::new(bytes), Draft::of(bytes)) else {
-        return text + "  not the length of a packet\n";
+    let (packet, draft) = match (Packet::new(bytes), Draft::of(bytes)) {
+        (Some(packet), Some(draft)) => (packet, draft),
+        _ => return text + "  not the length of a packet\n",
     };
     let fields = [
         ("dst_node", DST_NODE),

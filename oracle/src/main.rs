@@ -93,7 +93,7 @@ fn run(arguments: &[&str]) -> Result<ExitCode> {
 
 fn is_broken_pipe(error: &(dyn Error + 'static)) -> bool {
     let io_error = error.downcast_ref::<io::Error>();
-    io_error.is_some_and(|error| error.kind() == io::ErrorKind::BrokenPipe)
+    io_error.map_or(false, |error| error.kind() == io::ErrorKind::BrokenPipe)
 }
 
 fn print(text: &str) -> Result<()> {

@@ -51,20 +51,22 @@ pub fn send_word(word: usize) -> String {
 }
 
 pub fn receive_word(word: usize) -> String {
-    match word {
-        0..LISTS_FROM => {
-            let (slot, part) = (word / SLOT_WORDS, word % SLOT_WORDS);
-            format!("slot {slot} {}", SLOT_NAMES[part])
-        }
-        LISTS_FROM..NQR_FROM => {
-            let part = ["head", "token"][word % 2];
-            format!("list {} {part}", (word - LISTS_FROM) / 2)
-        }
-        NQR_FROM..AQR_FROM => format!("NQR entry {}", word - NQR_FROM),
-        AQR_FROM..NBQR_FROM => format!("AQR entry {}", word - AQR_FROM),
-        NBQR_FROM..PLACES_FROM => format!("NBQR entry {}", word - NBQR_FROM),
-        PLACES_FROM..REST_FROM => format!("list {} reader's place", word - PLACES_FROM),
-        _ => format!("rest word {word}"),
+    if word < LISTS_FROM {
+        let (slot, part) = (word / SLOT_WORDS, word % SLOT_WORDS);
+        format!("slot {slot} {}", SLOT_NAMES[part])
+    } else if word < NQR_FROM {
+        let part = ["head", "token"][word % 2];
+        format!("list {} {part}", (word - LISTS_FROM) / 2)
+    } else if word < AQR_FROM {
+        format!("NQR entry {}", word - NQR_FROM)
+    } else if word < NBQR_FROM {
+        format!("AQR entry {}", word - AQR_FROM)
+    } else if word < PLACES_FROM {
+        format!("NBQR entry {}", word - NBQR_FROM)
+    } else if word < REST_FROM {
+        format!("list {} reader's place", word - PLACES_FROM)
+    } else {
+        format!("rest word {word}")
     }
 }
 

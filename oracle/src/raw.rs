@@ -100,10 +100,10 @@ impl Case {
     /// The next case of the input; `None` at its end: "A truncated last case is ignored", "A case
     /// beyond one of these ends the run".
     pub fn decode(input: &mut impl Read) -> io::Result<Option<Case>> {
-        let Some(head) = get_bytes(input, 4 * HEAD_WORDS)? else {
-            return Ok(None);
+        let head = match get_bytes(input, 4 * HEAD_WORDS)? {
+            Some(head) => words_of(&head),
+            None => return Ok(None),
         };
-        let head = words_of(&head);
         let sizes: [u32; 6] = head[3..9].try_into().expect("six sizes");
         if sizes.iter().zip(LIMITS).any(|(&size, limit)| size > limit) {
             return Ok(None);
@@ -146,11 +146,16 @@ fn parts_of(sizes: [u32; 6]) -> [usize; 6] {
     [
         4 * send,
         4 * receive,
-        data.next_multiple_of(4),
+        4 * words_for(data),
         4 * notices,
-        packet.next_multiple_of(4),
+        4 * words_for(packet),
         4 * room,
     ]
+}
+
+/// How many words it takes to hold so many bytes.
+pub fn words_for(bytes: usize) -> usize {
+    (bytes + 3) / 4
 }
 
 fn put_words(bytes: &mut Vec<u8>, words: &[u32]) {
@@ -162,8 +167,8 @@ fn put_words(bytes: &mut Vec<u8>, words: &[u32]) {
 /// "padded with zero bytes to a multiple of 4".
 fn put_padded(bytes: &mut Vec<u8>, part: &[u8]) {
     bytes.extend(part);
-    let padding = part.len().next_multiple_of(4) - part.len();
-    bytes.extend(std::iter::repeat_n(0, padding));
+    let padding = 4 * words_for(part.len()) - part.len();
+    bytes.resize(bytes.len() + padding, 0);
 }
 
 fn words_of(bytes: &[u8]) -> Vec<u32> {

@@ -150,10 +150,10 @@ impl Descriptor {
             _ => u64::from(DIO_END),
         };
         let address_fits = if self.is_direct() {
-            address.is_multiple_of(4) && address >= DIO_FROM && end <= dio_end
+            address % 4 == 0 && address >= DIO_FROM && end <= dio_end
         } else {
             end <= data_bytes
         };
-        size.is_multiple_of(4) && offset + u64::from(size) <= u64::from(LARGEST_24) && address_fits
+        size % 4 == 0 && offset + u64::from(size) <= u64::from(LARGEST_24) && address_fits
     }
 }

@@ -100,7 +100,7 @@ impl BlockAddress {
     /// "its address a multiple of 32, at least 32, wholly inside".
     pub fn new(address: u32, notice_words: usize) -> Option<BlockAddress> {
         let inside = u64::from(address) + 32 <= 4 * notice_words as u64;
-        let is_block = address.is_multiple_of(32) && address >= 32 && inside;
+        let is_block = address % 32 == 0 && address >= 32 && inside;
         is_block.then_some(BlockAddress(address))
     }
 

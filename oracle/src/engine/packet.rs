@@ -46,7 +46,7 @@ impl<'a> Packet<'a> {
     /// Otherwise no-packet."
     pub fn new(bytes: &'a [u8]) -> Option<Packet<'a>> {
         let length = bytes.len();
-        if length < 20 || !length.is_multiple_of(4) {
+        if length < 20 || length % 4 != 0 {
             return None;
         }
         let packet = Packet { bytes };

@@ -46,7 +46,7 @@ pub enum Register {
 
 /// no-register: "address not mapped or not a multiple of 4".
 pub fn decode(address: u32) -> Option<Register> {
-    if !address.is_multiple_of(4) {
+    if address % 4 != 0 {
         return None;
     }
     Some(match address {

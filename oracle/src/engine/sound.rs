@@ -12,7 +12,7 @@ pub const PCSR0_NEVER: u32 = 0x3FF0_F000;
 
 /// "A pointer is a multiple of 4 inside its RAM".
 pub fn is_pointer(value: u32, ram_words: usize) -> bool {
-    value.is_multiple_of(4) && u64::from(value) < 4 * ram_words as u64
+    value % 4 == 0 && u64::from(value) < 4 * ram_words as u64
 }
 
 impl Machine {
@@ -23,7 +23,7 @@ impl Machine {
             && self.receive_ram.len() == RECEIVE_WORDS
             && self.data.len() <= DATA_BYTES_MOST
             && (NOTICE_WORDS_LEAST..=NOTICE_WORDS_MOST).contains(&notices)
-            && notices.is_multiple_of(8);
+            && notices % 8 == 0;
         if right {
             Ok(())
         } else {

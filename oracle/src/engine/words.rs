@@ -110,12 +110,15 @@ impl Machine {
     }
 
     fn write_receive_word(&mut self, word: usize, value: u32) -> Result<(), Reply> {
-        match word {
-            0..LISTS_FROM => self.write_slot_word(word / SLOT_WORDS, word % SLOT_WORDS, value),
-            LISTS_FROM..NQR_FROM if word.is_multiple_of(2) => self.write_head(word, value),
-            LISTS_FROM..NQR_FROM => self.write_token(word, value),
+        if word < LISTS_FROM {
+            self.write_slot_word(word / SLOT_WORDS, word % SLOT_WORDS, value)
+        } else if word >= NQR_FROM {
             // "Read-only: [...] queues, reader's places and the rest"
-            _ => Err(Reply::ReadOnly),
+            Err(Reply::ReadOnly)
+        } else if word % 2 == 0 {
+            self.write_head(word, value)
+        } else {
+            self.write_token(word, value)
         }
     }
 

@@ -41,7 +41,7 @@ fn free_block(machine: &Machine, rng: &mut Rng) -> Option<u32> {
     };
     let is_head = |address: u32| ListIndex::all().any(|list| machine.head(list) == address);
     (0..12).map(|_| any_block(machine, rng)).find(|&address| {
-        machine.block(address).is_some_and(|block| {
+        machine.block(address).map_or(false, |block| {
             machine.notices[block.word(NEXT)] == 0 && !is_waiting(address) && !is_head(address)
         })
     })

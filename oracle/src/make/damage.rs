@@ -32,11 +32,13 @@ impl Driver<'_> {
 
     /// With other fields and the checks computed again.
     fn altered(&mut self, packet: Vec<u8>) -> Vec<u8> {
-        let Some(mut draft) = Draft::of(&packet) else {
-            return packet;
-        };
-        spoil(&self.machine, &mut self.rng, &mut draft);
-        draft.encode()
+        match Draft::of(&packet) {
+            Some(mut draft) => {
+                spoil(&self.machine, &mut self.rng, &mut draft);
+                draft.encode()
+            }
+            None => packet,
+        }
     }
 
     /// Damaged in a bit or a byte, cut, or lengthened, the checks left as they were.

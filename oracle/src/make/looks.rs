@@ -252,7 +252,7 @@ impl Driver<'_> {
         let has_notice = |list: &u32| {
             let list = ListIndex::new(*list).expect("the lists of an episode exist");
             let block = self.machine.block(self.machine.place(list));
-            block.is_some_and(|block| self.machine.notices[block.word(NEXT)] != 0)
+            block.map_or(false, |block| self.machine.notices[block.word(NEXT)] != 0)
         };
         let filled: Vec<u32> = self.lists.iter().copied().filter(has_notice).collect();
         let list = match self.rng.below(20) {

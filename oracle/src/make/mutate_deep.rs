@@ -148,14 +148,16 @@ fn heads_and_places(machine: &mut Machine, rng: &mut Rng) {
 /// The list's place and the next of its block, for take.
 fn reader(case: &mut Case, rng: &mut Rng) {
     let machine = &mut case.machine;
-    let Some(list) = ListIndex::new(case.a) else {
-        return;
+    let list = match ListIndex::new(case.a) {
+        Some(list) => list,
+        None => return,
     };
     if machine.place(list) == 0 || rng.chance(20) {
         machine.receive_ram[list.place_word()] = any_block(machine, rng);
     }
-    let Some(block) = machine.block(machine.place(list)) else {
-        return;
+    let block = match machine.block(machine.place(list)) {
+        Some(block) => block,
+        None => return,
     };
     machine.notices[block.word(NEXT)] = match rng.below(3) {
         0 => odd_address(machine, rng),

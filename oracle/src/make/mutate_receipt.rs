@@ -22,8 +22,9 @@ fn change_by(draft: &Draft) -> i64 {
 
 /// The addressed slot's bytes_to_go: at a border before or after the packet, or beyond.
 pub fn bytes_to_go(case: &mut Case, rng: &mut Rng) {
-    let Some((draft, slot)) = addressed(case) else {
-        return plant_some(&mut case.machine, rng);
+    let (draft, slot) = match addressed(case) {
+        Some(addressed) => addressed,
+        None => return plant_some(&mut case.machine, rng),
     };
     let border = i64::from(LARGEST_24) * rng.pick(&[-1, 1]);
     let after = border - change_by(&draft);
@@ -42,8 +43,9 @@ pub fn bytes_to_go(case: &mut Case, rng: &mut Rng) {
 
 /// The packet completes its message, with acks or notices or both, and queues at their brims.
 pub fn stage_completion(case: &mut Case, rng: &mut Rng) {
-    let Some((draft, slot)) = addressed(case) else {
-        return stage_posting(case, rng, ListIndex::FAULTS);
+    let (draft, slot) = match addressed(case) {
+        Some(addressed) => addressed,
+        None => return stage_posting(case, rng, ListIndex::FAULTS),
     };
     let words = &mut case.machine.receive_ram[slot..slot + SLOT_WORDS];
     words[3] = (-change_by(&draft)) as u32;
@@ -69,8 +71,9 @@ pub fn stage_completion(case: &mut Case, rng: &mut Rng) {
 
 /// The addressed slot's other words.
 pub fn slot_words(case: &mut Case, rng: &mut Rng) {
-    let Some((draft, slot)) = addressed(case) else {
-        return tokens(&mut case.machine, rng);
+    let (draft, slot) = match addressed(case) {
+        Some(addressed) => addressed,
+        None => return tokens(&mut case.machine, rng),
     };
     let payload = draft.payload.len() as u32;
     let offset = draft.get(OFFSET);

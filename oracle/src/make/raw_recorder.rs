@@ -39,8 +39,9 @@ impl<W: Write> RawRecorder<W> {
 
     /// A kind that is below its share is wanted, but not at once, so that states differ.
     fn wants(&mut self, call: &Call) -> bool {
-        let Some(index) = (call.kind() as usize).checked_sub(1).filter(|&i| i < 5) else {
-            return false;
+        let index = match call.kind() {
+            kind @ 1..=5 => kind as usize - 1,
+            _ => return false,
         };
         let total: u64 = self.written.iter().sum();
         let below_share = 100 * self.written[index] <= SHARES[index] * total;

@@ -42,9 +42,12 @@ fn counts(records: usize, lines: usize) -> String {
 
 /// The line of a record in words; afterwards `known` has followed it.
 fn answer(line: Option<&Line>, entry: &Entry, known: &mut Known) -> String {
-    let Some(line) = line else {
-        *known = Known::nothing();
-        return "  no line\n".to_string();
+    let line = match line {
+        Some(line) => line,
+        None => {
+            *known = Known::nothing();
+            return "  no line\n".to_string();
+        }
     };
     let mut text = format!("  {}\n", line.text);
     if line.kind != entry.kind() {

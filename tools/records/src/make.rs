@@ -82,26 +82,26 @@ impl Draft {
             .split(',')
             .map(|word| number_of("a word of meta", word));
         let given = given.collect::<Result<Vec<u32>>>()?;
+        let count = given.len();
         let mut words = [0; 4];
-        let Some(room) = words.get_mut(..given.len()) else {
-            let count = given.len();
+        if count > words.len() {
             return Err(format!("meta has {count} words; expected 1 to 4"));
-        };
-        room.copy_from_slice(&given);
+        }
+        words[..count].copy_from_slice(&given);
         self.metadata = Some(words);
-        self.meta_len.get_or_insert(given.len() as u32);
+        self.meta_len.get_or_insert(count as u32);
         Ok(())
     }
 
     /// 01: what is "Well formed".
     fn judge(&self) -> Result<()> {
         let count = self.payload.len();
-        if !count.is_multiple_of(4) || count > PAYLOAD_MOST {
+        if count % 4 != 0 || count > PAYLOAD_MOST {
             return Err(format!(
                 "the payload has {count} bytes; expected a multiple of 4, at most {PAYLOAD_MOST}"
             ));
         }
-        if self.metadata.is_none() && self.meta_len.is_some_and(|length| length > 0) {
+        if self.metadata.is_none() && self.meta_len.unwrap_or(0) > 0 {
             return Err("meta_len without meta; expected 0, or meta= beside it".into());
         }
         if self.ack && (self.metadata.is_some() || count > 0) {

@@ -37,7 +37,7 @@ pub fn bytes_of(what: &str, digits: &str) -> Result<Vec<u8>> {
     if let Some(wrong) = digits.chars().find(|digit| !digit.is_ascii_hexdigit()) {
         return Err(format!("{what} has {wrong:?}; expected hexadecimal digits"));
     }
-    if !digits.len().is_multiple_of(2) {
+    if digits.len() % 2 != 0 {
         let count = digits.len();
         return Err(format!(
             "{what} has {count} hexadecimal digits; expected two for each byte"

@@ -27,7 +27,7 @@ impl<'a> Packet<'a> {
     /// Otherwise no-packet."
     pub fn new(bytes: &'a [u8]) -> Option<Packet<'a>> {
         let length = bytes.len();
-        if length < 20 || !length.is_multiple_of(4) {
+        if length < 20 || length % 4 != 0 {
             return None;
         }
         let packet = Packet { bytes };
@@ -111,7 +111,7 @@ impl<'a> Packet<'a> {
     /// "body check or its padding".
     pub fn body_is_right(&self) -> bool {
         self.body_end()
-            .is_none_or(|end| end == (check(&[self.payload()]), 0))
+            .map_or(true, |end| end == (check(&[self.payload()]), 0))
     }
 
     /// "zero and reserved fields, meta_len as meta_cnt, ack is 20 bytes (H)": those broken.

@@ -68,17 +68,32 @@ const SLOT_NAMES: [&str; 16] = [
 /// The word at a byte address, which is a multiple of 4 inside the RAM.
 pub fn place(ram: Ram, byte: u32) -> Place {
     let word = byte as usize / 4;
-    match (ram, word) {
-        (Ram::Send, 0..64) => Place::Descriptor(word / 16, word % 16),
-        (Ram::Send, _) => Place::Dio(4 * word),
-        (_, 0..LISTS_FROM) => Place::Slot(word / SLOT_WORDS, word % SLOT_WORDS),
-        (_, LISTS_FROM..NQR_FROM) if word.is_multiple_of(2) => Place::Head((word - LISTS_FROM) / 2),
-        (_, LISTS_FROM..NQR_FROM) => Place::Token((word - LISTS_FROM) / 2),
-        (_, NQR_FROM..AQR_FROM) => Place::Queue("NQR", word - NQR_FROM),
-        (_, AQR_FROM..NBQR_FROM) => Place::Queue("AQR", word - AQR_FROM),
-        (_, NBQR_FROM..PLACES_FROM) => Place::Queue("NBQR", word - NBQR_FROM),
-        (_, PLACES_FROM..REST_FROM) => Place::Reader(word - PLACES_FROM),
-        _ => Place::Rest(word),
+    match ram {
+        Ram::Send if word < 64 => Place::Descriptor(word / 16, word % 16),
+        Ram::Send => Place::Dio(4 * word),
+        Ram::Receive => receive_place(word),
+    }
+}
+
+fn receive_place(word: usize) -> Place {
+    if word < LISTS_FROM {
+        Place::Slot(word / SLOT_WORDS, word % SLOT_WORDS)
+    } else if word < NQR_FROM {
+        let list = (word - LISTS_FROM) / 2;
+        match word % 2 {
+            0 => Place::Head(list),
+            _ => Place::Token(list),
+        }
+    } else if word < AQR_FROM {
+        Place::Queue("NQR", word - NQR_FROM)
+    } else if word < NBQR_FROM {
+        Place::Queue("AQR", word - AQR_FROM)
+    } else if word < PLACES_FROM {
+        Place::Queue("NBQR", word - NBQR_FROM)
+    } else if word < REST_FROM {
+        Place::Reader(word - PLACES_FROM)
+    } else {
+        Place::Rest(word)
     }
 }
 
@@ -139,7 +154,7 @@ impl Place {
 pub fn why_no_block(address: u32) -> Option<&'static str> {
     match address {
         0 => Some("address 0 means none"),
-        _ if !address.is_multiple_of(32) => Some("a block's address is a multiple of 32"),
+        _ if address % 32 != 0 => Some("a block's address is a multiple of 32"),
         _ if address > NOTICE_BYTES - 32 => Some("the station's last block is at 0x1fe0"),
         _ => None,
     }

@@ -94,7 +94,7 @@ const RECEIVE_PAGE: &str = "receive_page+";
 
 /// no-register: "address not mapped or not a multiple of 4".
 pub fn decode(number: u32) -> Option<Register> {
-    if !number.is_multiple_of(4) {
+    if number % 4 != 0 {
         return None;
     }
     match number {
@@ -126,5 +126,5 @@ pub fn name(number: u32) -> Option<String> {
 /// The number of a register name; capitals do not matter.
 pub fn named(text: &str) -> Option<u32> {
     let numbers = (0..0x400).step_by(4);
-    { numbers }.find(|&number| name(number).is_some_and(|own| own.eq_ignore_ascii_case(text)))
+    { numbers }.find(|&number| name(number).map_or(false, |own| own.eq_ignore_ascii_case(text)))
 }

@@ -74,8 +74,9 @@ impl Line {
         let expected = "expected kind, word, value as 8 lowercase hex digits, and interrupts, \
                         like `2 done 40030007 0`";
         let wrong = |what: &str| format!("{what} in {text:?}; {expected}");
-        let &[kind, word, value, interrupts] = &text.split(' ').collect::<Vec<_>>()[..] else {
-            return Err(wrong("not four words"));
+        let (kind, word, value, interrupts) = match text.split(' ').collect::<Vec<_>>()[..] {
+            [kind, word, value, interrupts] => (kind, word, value, interrupts),
+            _ => return Err(wrong("not four words")),
         };
         let reply = WORDS.iter().find(|(own, _)| *own == word);
         let lowercase = |digit: u8| matches!(digit, b'0'..=b'9' | b'a'..=b'f');

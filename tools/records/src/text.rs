@@ -18,8 +18,9 @@ pub fn to_records(text: &[u8], name: &str, folder: &Path) -> Result<Vec<u8>> {
     let mut torn_at = None;
     for (place, line) in lines_of(text, name)?.enumerate() {
         let located = |error: String| format!("{name}:{}: {error}", place + 1);
-        let Some(entry) = parse::entry(line, folder).map_err(located)? else {
-            continue;
+        let entry = match parse::entry(line, folder).map_err(located)? {
+            Some(entry) => entry,
+            None => continue,
         };
         if let Some(torn_at) = torn_at {
             return Err(located(format!(

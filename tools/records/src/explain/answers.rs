@@ -114,8 +114,9 @@ fn received(packet: &Packet, known: &Known) -> Vec<String> {
             None => format!("the ack's notice is on slot {slot}'s list for acks"),
         }];
     }
-    let Some(landing) = known.landing(packet) else {
-        return vec!["taken; the slot is not known well enough to say more".to_string()];
+    let landing = match known.landing(packet) {
+        Some(landing) => landing,
+        None => return vec!["taken; the slot is not known well enough to say more".to_string()],
     };
     let payload = packet.payload().len();
     let first = u64::from(landing.base) + u64::from(packet.control0("offset"));
@@ -138,8 +139,9 @@ fn received(packet: &Packet, known: &Known) -> Vec<String> {
 }
 
 fn sent(length: u32, known: &Known) -> Vec<String> {
-    let Some(sent) = known.next_sent() else {
-        return vec![format!("a packet of {length} bytes was sent")];
+    let sent = match known.next_sent() {
+        Some(sent) => sent,
+        None => return vec![format!("a packet of {length} bytes was sent")],
     };
     let number = sent.descriptor;
     let mut said = vec![format!(

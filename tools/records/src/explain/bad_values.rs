@@ -16,7 +16,7 @@ pub fn why(register: u32, value: u32, known: &Known) -> String {
         }
         Some(Register::SlotCount) => format!("{value} is above 64, the most slots"),
         Some(Register::Nbqr) => bad_block(value),
-        Some(Register::Pointer(ram)) if value.is_multiple_of(4) => {
+        Some(Register::Pointer(ram)) if value % 4 == 0 => {
             format!("{} ends at 0x{:x}", ram.name(), ram.bytes())
         }
         Some(Register::Pointer(_)) => "a pointer is a multiple of 4".to_string(),

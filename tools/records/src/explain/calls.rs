@@ -36,10 +36,10 @@ pub fn head(call: &Call, known: &Known) -> String {
 
 /// The register's name and number, and the RAM word that it reaches.
 pub fn register_in_words(register: u32, known: &Known) -> String {
-    let Some(name) = name(register) else {
-        return format!("0x{register:03X}, which is no register");
+    let own = match name(register) {
+        Some(name) => format!("{name} (0x{register:03X})"),
+        None => return format!("0x{register:03X}, which is no register"),
     };
-    let own = format!("{name} (0x{register:03X})");
     match (known.place(register), known.reached(register)) {
         // Its name says it all.
         _ if matches!(decode(register), Some(Register::Descriptor(_))) => own,

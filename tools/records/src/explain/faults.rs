@@ -5,18 +5,19 @@ use crate::known::Known;
 use crate::packet::Packet;
 
 pub fn why(call: &Call, status: u32, known: &Known) -> Vec<String> {
-    let Call::Receive { packet, .. } = call else {
-        return Vec::new();
+    let packet = match call {
+        Call::Receive { packet, .. } => packet.and_then(Packet::new),
+        _ => return Vec::new(),
     };
-    let Some(packet) = packet.and_then(Packet::new) else {
-        return vec![format!(
+    match packet {
+        Some(packet) => vec![
+            format!("status 0x{status:04x}: {}", reason(&packet, status, known)),
+            "the packet was dropped; a fault notice is on list 0".to_string(),
+        ],
+        None => vec![format!(
             "status 0x{status:04x}, for a packet without a packet's length"
-        )];
-    };
-    vec![
-        format!("status 0x{status:04x}: {}", reason(&packet, status, known)),
-        "the packet was dropped; a fault notice is on list 0".to_string(),
-    ]
+        )],
+    }
 }
 
 /// What the step of that status found.

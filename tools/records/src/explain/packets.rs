@@ -4,8 +4,9 @@ use crate::fields::{in_words, CONTROL0, PACKET0, PACKET1, PACKET3};
 use crate::packet::{check, Packet};
 
 pub fn details(bytes: &[u8]) -> Vec<String> {
-    let Some(packet) = Packet::new(bytes) else {
-        return Vec::new();
+    let packet = match Packet::new(bytes) {
+        Some(packet) => packet,
+        None => return Vec::new(),
     };
     let mut said = vec![
         format!(
@@ -32,8 +33,9 @@ pub fn details(bytes: &[u8]) -> Vec<String> {
 }
 
 fn body(packet: &Packet) -> String {
-    let Some((given, padding)) = packet.body_end() else {
-        return String::new();
+    let (given, padding) = match packet.body_end() {
+        Some(end) => end,
+        None => return String::new(),
     };
     let right = right_or_wrong(given == check(&[packet.payload()]));
     let padding = match padding {

@@ -90,7 +90,7 @@ fn no_packet(packet: Option<&[u8]>, length: u32) -> String {
         .map(|byte| byte & 8 != 0);
     let lengths = match flag {
         _ if length > 168 => "is above 168, the longest packet",
-        _ if !length.is_multiple_of(4) => "is no multiple of 4",
+        _ if length % 4 != 0 => "is no multiple of 4",
         Some(true) => "is none of a packet with the meta flag: 36, or 44 to 168",
         Some(false) if length >= 20 => {
             "is none of a packet without the meta flag: 20, or 28 to 152"
@@ -103,8 +103,9 @@ fn no_packet(packet: Option<&[u8]>, length: u32) -> String {
 /// Which notice or entry the packet needs, and what there is no room for.
 fn receive_stalled(packet: Option<&[u8]>, known: &Known) -> Vec<String> {
     let unknown = one("a notice or AQR entry that the packet needs has no room");
-    let Some(packet) = packet.and_then(Packet::new) else {
-        return unknown;
+    let packet = match packet.and_then(Packet::new) {
+        Some(packet) => packet,
+        None => return unknown,
     };
     match known.first_failure(&packet) {
         None => unknown,

@@ -100,8 +100,9 @@ impl Known {
 
     /// A notice was posted; none if it is not known to which list.
     pub(super) fn post(&mut self, list: Option<u32>, notice: Notice) {
-        let Some(list) = list.map(|list| list as usize).filter(|list| *list < LISTS) else {
-            return self.posted_somewhere();
+        let list = match list.map(|list| list as usize) {
+            Some(list) if list < LISTS => list,
+            _ => return self.posted_somewhere(),
         };
         self.nbqr = self.nbqr.map(|count| count.saturating_sub(1));
         self.nqr = match self.enqueues(list) {

@@ -112,21 +112,25 @@ impl Known {
     }
 
     pub(super) fn received(&mut self, packet: Option<Packet>) {
-        let Some(packet) = packet else {
-            return self.posted_somewhere();
+        let packet = match packet {
+            Some(packet) => packet,
+            None => return self.posted_somewhere(),
         };
         if packet.is_ack() {
             let notice = Notice::of_message(Event::Ack, &packet);
             return self.post(self.ack_list(&packet), notice);
         }
         let landing = self.landing(&packet);
-        let Some(words) = self.slots.get_mut(packet.slot() as usize) else {
-            return self.posted_somewhere();
-        };
-        change_slot(words, &packet, landing);
-        let Some(landing) = landing else {
-            self.aqr = None;
-            return self.posted_somewhere();
+        match self.slots.get_mut(packet.slot() as usize) {
+            Some(words) => change_slot(words, &packet, landing),
+            None => return self.posted_somewhere(),
+        }
+        let landing = match landing {
+            Some(landing) => landing,
+            None => {
+                self.aqr = None;
+                return self.posted_somewhere();
+            }
         };
         if landing.do_acks {
             self.aqr = self.aqr.map(|count| count + 1);

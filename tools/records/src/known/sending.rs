@@ -102,8 +102,9 @@ impl Known {
     }
 
     pub(super) fn was_sent(&mut self) {
-        let Some(sent) = self.next_sent() else {
-            return self.someone_sent();
+        let sent = match self.next_sent() {
+            Some(sent) => sent,
+            None => return self.someone_sent(),
         };
         self.last_sender = Some(sent.descriptor);
         let words = &mut self.descriptors[sent.descriptor];
@@ -200,7 +201,7 @@ fn size_clauses(words: &Words, control1: u32) -> Vec<Clause> {
     let address = words[0].map(u64::from);
     let mut clauses = vec![
         (
-            Some(!size.is_multiple_of(4)),
+            Some(size % 4 != 0),
             format!("the size {size} is no multiple of 4"),
         ),
         (
@@ -211,7 +212,7 @@ fn size_clauses(words: &Words, control1: u32) -> Vec<Clause> {
     if part(control1, CONTROL1, "direct_io") == 1 {
         let text = "for direct_io the address must be a multiple of 4, at least 0x100, and plus \
                     size at most 0x1000";
-        let is_bad = |at: u64| !at.is_multiple_of(4) || at < 0x100 || at + size > 0x1000;
+        let is_bad = |at: u64| at % 4 != 0 || at < 0x100 || at + size > 0x1000;
         clauses.push((address.map(is_bad), text.to_string()));
     } else {
         let text = format!("msg_address plus size is above the data memory's {DATA_BYTES} bytes");

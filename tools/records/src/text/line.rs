@@ -11,11 +11,11 @@ pub fn words(line: &str) -> Result<Vec<String>> {
         match letter {
             '"' => {
                 quoted = !quoted;
-                word.get_or_insert_default();
+                word.get_or_insert_with(String::new);
             }
             '#' if !quoted => break,
             _ if letter.is_whitespace() && !quoted => words.extend(word.take()),
-            _ => word.get_or_insert_default().push(letter),
+            _ => word.get_or_insert_with(String::new).push(letter),
         }
     }
     if quoted {

@@ -14,8 +14,9 @@ use crate::registers;
 pub fn entry(line: &str, folder: &Path) -> Result<Option<Entry>> {
     let words = words(line)?;
     let words: Vec<&str> = words.iter().map(String::as_str).collect();
-    let Some((&verb, rest)) = words.split_first() else {
-        return Ok(None);
+    let (verb, rest) = match words.split_first() {
+        Some((&verb, rest)) => (verb, rest),
+        None => return Ok(None),
     };
     let record = match verb {
         "write" => write(rest)?,
@@ -53,8 +54,9 @@ const ALL: [&str; 6] = [
 
 fn write(words: &[&str]) -> Result<Record> {
     let (plain, settings) = divide(words)?;
-    let &[register, value] = &plain[..] else {
-        return Err(not_so_many("write", &plain, "a register and a value"));
+    let (register, value) = match plain[..] {
+        [register, value] => (register, value),
+        _ => return Err(not_so_many("write", &plain, "a register and a value")),
     };
     let mut record = Record::new(
         WRITE,
@@ -67,8 +69,9 @@ fn write(words: &[&str]) -> Result<Record> {
 
 fn read(words: &[&str]) -> Result<Record> {
     let (plain, settings) = divide(words)?;
-    let &[register] = &plain[..] else {
-        return Err(not_so_many("read", &plain, "a register"));
+    let register = match plain[..] {
+        [register] => register,
+        _ => return Err(not_so_many("read", &plain, "a register")),
     };
     let mut record = Record::new(READ, register_of(register)?, 0);
     apply(&mut record, &settings, &SECOND_AND_REST)?;
@@ -98,8 +101,9 @@ fn send(words: &[&str]) -> Result<Record> {
 
 fn take(words: &[&str]) -> Result<Record> {
     let (plain, settings) = divide(words)?;
-    let &[list] = &plain[..] else {
-        return Err(not_so_many("take", &plain, "a list's number"));
+    let list = match plain[..] {
+        [list] => list,
+        _ => return Err(not_so_many("take", &plain, "a list's number")),
     };
     let mut record = Record::new(TAKE, number_of("the list", list)?, 0);
     apply(&mut record, &settings, &SECOND_AND_REST)?;
@@ -108,8 +112,9 @@ fn take(words: &[&str]) -> Result<Record> {
 
 fn kind(words: &[&str]) -> Result<Record> {
     let (plain, settings) = divide(words)?;
-    let &[kind] = &plain[..] else {
-        return Err(not_so_many("kind", &plain, "a number from 0 to 255"));
+    let kind = match plain[..] {
+        [kind] => kind,
+        _ => return Err(not_so_many("kind", &plain, "a number from 0 to 255")),
     };
     let kind = number_up_to(u8::MAX.into(), "the kind", kind)? as u8;
     let mut record = Record::new(kind, 0, 0);
@@ -159,13 +164,14 @@ fn put_packet(record: &mut Record, packet: &[u8]) -> Result<()> {
     Ok(())
 }
 
+const TORN_MOST: usize = RECORD - 1;
+
 fn torn(words: &[&str]) -> Result<Entry> {
     let bytes = crate::numbers::bytes_of("the torn record", &words.concat())?;
     match bytes.len() {
-        1..RECORD => Ok(Entry::Torn(bytes)),
+        1..=TORN_MOST => Ok(Entry::Torn(bytes)),
         count => Err(format!(
-            "the torn record has {count} bytes; expected 1 to {}",
-            RECORD - 1
+            "the torn record has {count} bytes; expected 1 to {TORN_MOST}"
         )),
     }
 }

@@ -11,11 +11,14 @@ pub fn bytes_from(what: &str, words: &[&str], folder: &Path) -> Result<Vec<u8>> 
     if words.iter().all(|word| is_hex(word)) {
         return bytes_of(what, &words.concat());
     }
-    let &[name] = words else {
-        let wrong = words.iter().find(|word| !is_hex(word)).unwrap_or(&"");
-        return Err(format!(
-            "{what} has {wrong:?}; expected hexadecimal digits, or the name of one file"
-        ));
+    let name = match words {
+        &[name] => name,
+        _ => {
+            let wrong = words.iter().find(|word| !is_hex(word)).unwrap_or(&"");
+            return Err(format!(
+                "{what} has {wrong:?}; expected hexadecimal digits, or the name of one file"
+            ));
+        }
     };
     let content = fs::read(folder.join(name)).map_err(|error| {
         format!(
