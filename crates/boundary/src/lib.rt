@@ -4,5 +4,13 @@ mod read;
 mod receive;
 mod send;
 mod take;
+mod unknown;
 mod words;
 mod write;
+
+pub use read::valmthosh_read;
+pub use receive::valmthosh_receive;
+pub use send::valmthosh_send;
+pub use take::valmthosh_take;
+pub use unknown::unknown_call;
+pub use write::valmthosh_write;

@@ -1,0 +1,22 @@
+-- `boundary::unknown::unknown_call` meets its contract. Assumes nothing.
+use borrow.Author.Needs.{needs}
+use Rattle.boundary.proofs.Ending.{other-saved, short-answer, ends}
+use Rattle.boundary.proofs.unknown.unknown_call.Statement.{statement}
+use Rattle.boundary.proofs.unknown.unknown_call.Tie as tie
+
+pub unknown-call-spec : {M : Type 1} → statement M
+unknown-call-spec =
+    tie.close
+    (tie.spec
+    (λ c. other-saved _ _ (c .if1 .taken))
+    (λ c. short-answer _ _ (c .if2 .taken))
+    (λ c κs. search needs)
+    (λ c κs. search needs)
+    (λ c κs. search needs)
+    (λ c. search needs)
+    (λ c. search needs)
+    (λ c.
+    let ended = c .before .before .before .before in
+    let called = ended .before .before .before in
+    let loaded = called .before in
+    ends _ _ (search needs) (loaded .load .ensures) (called .unknown .ensures) (ended .finish .ensures)))
