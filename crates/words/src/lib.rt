@@ -1,7 +1,7 @@
-// "Words are big-endian": words read from bytes and stored in them, copies to a place, rows of words and their bytes.
+// "Words are big-endian": words read from bytes and stored in them, copies to a place, rows of words.
 ghost use mathlib.Core.Path.{_≡_};
-ghost use Prim.Native.Nat.{_+_, _*_, _<_, _≤_};
-ghost use lib.ListN.{length, getD, set};
+ghost use Prim.Native.Nat.{_+_, _*_, _≤_};
+ghost use lib.ListN.{length};
 ghost use lib.Seq.{sets};
 ghost use Rattle.ground.specs.Bytes.{join, wordAt, bytesOf, toBytes};
 
@@ -65,46 +65,4 @@ pub fn copy_words(to: &mut [u8], at: usize, from: &[u32])
         put(to, at + i * 4, from[i]);
         i += 1;
     }
-}
-
-// Byte k of a word, the highest first.
-fn byte_of(w: u32, k: usize) -> u8
-    requires { ⌜ k < 4 ⌝ }
-    ensures { λ r. ⌜ r ≡ getD (bytesOf w) k 0 ⌝ }
-{
-    match k {
-        0 => (w / 0x100_0000) as u8,
-        1 => (w / 0x1_0000 % 256) as u8,
-        2 => (w / 0x100 % 256) as u8,
-        _ => (w % 256) as u8,
-    }
-}
-
-// A word with byte k set.
-fn with_byte(w: u32, k: usize, byte: u8) -> u32
-    requires { ⌜ k < 4 ⌝ }
-    ensures { λ r. ⌜ bytesOf r ≡ set (bytesOf w) k byte ⌝ }
-{
-    match k {
-        0 => byte as u32 * 0x100_0000 + w % 0x100_0000,
-        1 => w / 0x100_0000 * 0x100_0000 + byte as u32 * 0x1_0000 + w % 0x1_0000,
-        2 => w / 0x1_0000 * 0x1_0000 + byte as u32 * 0x100 + w % 0x100,
-        _ => w / 0x100 * 0x100 + byte as u32,
-    }
-}
-
-// Byte i of a row of words.
-pub fn get_byte(words: &[u32], i: usize) -> u8
-    requires { ⌜ i < length (now words) * 4 ⌝ }
-    ensures { λ r. ⌜ r ≡ getD (toBytes (now (words .entry))) i 0 ⌝ }
-{
-    byte_of(words[i / 4], i % 4)
-}
-
-// A byte stored at byte i of a row of words.
-pub fn put_byte(words: &mut [u32], i: usize, byte: u8)
-    requires { ⌜ i < length (now words) * 4 ⌝ }
-    ensures { λ _. ⌜ toBytes (now (words .exit)) ≡ set (toBytes (now (words .entry))) i byte ⌝ }
-{
-    words[i / 4] = with_byte(words[i / 4], i % 4, byte);
 }
