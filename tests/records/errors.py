@@ -78,10 +78,13 @@ ANSWERS = [
     ('2  done 40030007 0', 'not four words'),
     ('', 'not four words'),
     ('256 done 40030007 0', 'no kind from 0 to 255'),
+    ('+2 done 40030007 0', 'no kind from 0 to 255'),
+    ('02 done 40030007 0', 'no kind from 0 to 255'),
     ('2 Done 40030007 0', "no word of document 01's table"),
     ('2 done 4003000A 0', 'no value'),
     ('2 done 4003007 0', 'no value'),
     ('2 done 40030007 8', 'no sum of interrupts from 0 to 7'),
+    ('2 done 40030007 +0', 'no sum of interrupts from 0 to 7'),
 ]
 
 
@@ -93,8 +96,12 @@ def errors():
             # The line in error is the last, and what stands before it is right.
             text = f'# first\nread PCSR0\n{line}\n'
             refused(folder, text.encode(), ('write', 'a.txt'), f'a.txt:{text.count(chr(10))}: {said}')
-        refused(folder, b'read 0\n\xff\xfe', ('write', 'a.txt'),
-                'a.txt:2: bytes that are no text; expected lines of records (is this a record file? `records read` reads those)')
+        # Record files, given where a text is expected: one that is no UTF-8, one that is.
+        for content in (b'\xff\xfe', record(1, 0x01C, 0x20)):
+            refused(folder, b'read 0\n' + content, ('write', 'a.txt'),
+                    'a.txt:2: bytes that are no text; expected lines of records (is this a record file? `records read` reads those)')
+        refused(folder, record(2), ('explain', 'a.bin', 'a.txt'),
+                "a.txt:1: bytes that are no text; expected the station's lines (is this a record file? It stands before them)")
         for line, said in ANSWERS:
             refused(folder, f'2 done 00000000 0\n{line}\n'.encode(), ('explain', 'a.bin', 'a.txt'), f'a.txt:2: {said} in "{line}"; {FORM}')
         for words, said in PACKETS:
@@ -104,7 +111,7 @@ def errors():
             missing = 'no.txt: No such file or directory (os error 2); expected a file that can be read'
             expect(f'records {words}', (1, b'', missing + '\n'), run(*words, folder=folder))
     usage()
-    return f'{len(LINES) + len(ANSWERS) + len(PACKETS) + 5} messages'
+    return f'{len(LINES) + len(ANSWERS) + len(PACKETS) + len(COMMANDS) + 7} messages'
 
 
 def refused(folder, text, words, said):
@@ -112,7 +119,17 @@ def refused(folder, text, words, said):
     expect(f'records {" ".join(words)} for {text!r}', (1, b'', said + '\n'), run(*words, folder=folder))
 
 
+# The words of a command line that is none, and what is said first.
+COMMANDS = [
+    ((), 'records without a command'),
+    (('wirte', 'a'), '"wirte" is no command'),
+    (('write',), 'records write with 0 files'),
+    (('read', 'a.bin', 'b.bin'), 'records read with 2 files'),
+    (('explain', 'a.bin'), 'records explain with 1 file'),
+]
+
+
 def usage():
-    for words in ((), ('wirte', 'a'), ('write',), ('explain', 'a.bin')):
-        code, output, said = run(*words)
-        expect(f'records {words}', (1, b'', True), (code, output, 'expected one of\nrecords write FILE.txt' in said))
+    for words, said in COMMANDS:
+        code, output, error = run(*words)
+        expect(f'records {words}', (1, b'', True), (code, output, error.startswith(f'{said}; expected one of\nrecords write FILE.txt')))

@@ -83,6 +83,8 @@ SAID = [
     ([('send ready', '4 short 00000000 0')], 'the room lent for it is too short; a station lends enough'),
     ([('kind 7', '7 sizes 00000000 0')], "a memory has another size; a station's have the largest"),
     ([('read 0', '2 unsound 00000000 0')], 'the saved state is not sound; no calls lead there'),
+    # A line of another kind: the pointer is not known then.
+    ([('read 0', '1 done 00000000 0'), ('write receive_word 1', '1 read-only 00000000 0')], 'the word that was reached cannot be written'),
 ]
 META = 'receive packet dst=9 incarnation=3 meta=1,2,3,4 payload=00112233', '3 done 00000000 0'
 ACKED = 'receive packet dst=9 incarnation=3 use_size', '3 done 00000000 0'

@@ -58,14 +58,20 @@ fn run(arguments: &[&str]) -> Result<Vec<u8>> {
             Ok((numbers::hex_words(&packet) + "\n").into_bytes())
         }
         ["help" | "--help" | "-h"] => Ok(USAGE.into()),
-        [] => Err(format!(
-            "records without a command; expected one of\n{USAGE}"
-        )),
-        [command, ref rest @ ..] => Err(format!(
-            "records {command} with {} words after it; expected one of\n{USAGE}",
-            rest.len()
-        )),
+        [] => Err(format!("records without a command; {}", usage())),
+        [command @ ("write" | "read" | "explain"), ref files @ ..] => {
+            let files = match files.len() {
+                1 => "1 file".to_string(),
+                count => format!("{count} files"),
+            };
+            Err(format!("records {command} with {files}; {}", usage()))
+        }
+        [other, ..] => Err(format!("{other:?} is no command; {}", usage())),
     }
+}
+
+fn usage() -> String {
+    format!("expected one of\n{}", USAGE.trim_end())
 }
 
 fn content(name: &str) -> Result<Vec<u8>> {

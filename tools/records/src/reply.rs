@@ -1,6 +1,7 @@
 //! 01, "Replies": the sixteen words, and the station's lines.
 
 use crate::numbers::Result;
+use crate::text::plain;
 
 #[derive(Clone, Copy, Debug, PartialEq, Eq)]
 pub enum Reply {
@@ -61,12 +62,18 @@ pub struct Line {
 
 /// All lines; `name` is for errors.
 pub fn lines(text: &[u8], name: &str) -> Result<Vec<Line>> {
-    let text = String::from_utf8_lossy(text);
-    let numbered = text.lines().enumerate();
+    let expected = "the station's lines (is this a record file? It stands before them)";
+    let numbered = plain(text, name, expected)?.lines().enumerate();
     let parsed = numbered.map(|(place, line)| {
         Line::of(line).map_err(|error| format!("{name}:{}: {error}", place + 1))
     });
     parsed.collect()
+}
+
+/// "Kind and interrupts print in decimal": with no sign, and no zero in front.
+fn decimal(text: &str) -> Option<u32> {
+    let number: u32 = text.parse().ok()?;
+    (number.to_string() == text).then_some(number)
 }
 
 impl Line {
@@ -81,10 +88,11 @@ impl Line {
         let reply = WORDS.iter().find(|(own, _)| *own == word);
         let lowercase = |digit: u8| matches!(digit, b'0'..=b'9' | b'a'..=b'f');
         let is_value = value.len() == 8 && value.bytes().all(lowercase);
-        let interrupts = interrupts.parse().ok().filter(|&sum| sum <= 7);
+        let interrupts = decimal(interrupts).filter(|&sum| sum <= 7);
+        let kind = decimal(kind).and_then(|kind| kind.try_into().ok());
         Ok(Line {
             text: text.to_string(),
-            kind: kind.parse().map_err(|_| wrong("no kind from 0 to 255"))?,
+            kind: kind.ok_or_else(|| wrong("no kind from 0 to 255"))?,
             reply: reply
                 .ok_or_else(|| wrong("no word of document 01's table"))?
                 .1,

@@ -16,7 +16,8 @@ use crate::record::{entries, Entry};
 pub fn to_records(text: &[u8], name: &str, folder: &Path) -> Result<Vec<u8>> {
     let mut bytes = Vec::new();
     let mut torn_at = None;
-    for (place, line) in lines_of(text, name)?.enumerate() {
+    let expected = "lines of records (is this a record file? `records read` reads those)";
+    for (place, line) in plain(text, name, expected)?.lines().enumerate() {
         let located = |error: String| format!("{name}:{}: {error}", place + 1);
         let entry = match parse::entry(line, folder).map_err(located)? {
             Some(entry) => entry,
@@ -36,16 +37,18 @@ pub fn to_records(text: &[u8], name: &str, folder: &Path) -> Result<Vec<u8>> {
     Ok(bytes)
 }
 
-fn lines_of<'a>(text: &'a [u8], name: &str) -> Result<std::str::Lines<'a>> {
-    let text = std::str::from_utf8(text).map_err(|error| {
-        let before = &text[..error.valid_up_to()];
-        let line = 1 + before.iter().filter(|&&byte| byte == b'\n').count();
-        format!(
-            "{name}:{line}: bytes that are no text; expected lines of records \
-             (is this a record file? `records read` reads those)"
-        )
-    })?;
-    Ok(text.lines())
+/// The content of a file that has to be text; `expected` is for errors. A record file may be UTF-8
+/// throughout, but has zero bytes.
+pub fn plain<'a>(content: &'a [u8], name: &str, expected: &str) -> Result<&'a str> {
+    let no_text = |at: usize| {
+        let line = 1 + content[..at].iter().filter(|&&byte| byte == b'\n').count();
+        format!("{name}:{line}: bytes that are no text; expected {expected}")
+    };
+    let text = std::str::from_utf8(content).map_err(|error| no_text(error.valid_up_to()))?;
+    match text.find('\0') {
+        Some(at) => Err(no_text(at)),
+        None => Ok(text),
+    }
 }
 
 /// The text of a record file.

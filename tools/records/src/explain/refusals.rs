@@ -70,7 +70,9 @@ fn read_only(register: u32, known: &Known) -> String {
     match known.place(register) {
         Some(Place::Head(list)) => format!("the head of list {list} is set already, not 0"),
         Some(place) => format!("{} cannot be written", place.name()),
-        None if known.reached(register).is_some() => "the word that was reached".to_string(),
+        None if known.reached(register).is_some() => {
+            "the word that was reached cannot be written".to_string()
+        }
         None => format!("{} cannot be written", name(register).unwrap_or_default()),
     }
 }
