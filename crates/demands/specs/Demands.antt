@@ -76,7 +76,8 @@ pub record Moment (s : Machine) (r : Run) : Type 0 where
   pub stands : (b : ℕ) → count b (standing (after s r)) ≡ count b (handed s r)
   -- "their number equals the accepted writes"
   pub number : length (standing (after s r)) ≡ length (handed s r)
-  -- "on each list the notices taken, then those found by walking from the reader's place, are exactly those that demand 2 posts there"
+  -- "on each list the notices taken, then those found by walking from the reader's place, are exactly those that demand 2 posts there, in
+  -- order, each once"
   pub order : (k : ℕ) → k < lists → taken k s r ++ found (after s r) k ≡ posted k s r
 
 -- "In any run of calls after a reset (refusals included, no second reset, no block handed over twice, data memory alone written from

@@ -18,15 +18,19 @@ fn data_receipt(i: SlotIndex, v: Slot, packet: &[u8], p: Packet) -> Receipt
 {
     let h = p.header;
     let offset = h.control0 % 0x100_0000;
+    // "offset above buffer size"
     if v.size < offset {
         return Receipt::Fails(0x1000);
     }
+    // "offset plus payload above it"
     if v.size < offset + p.payloadlength {
         return Receipt::Fails(0x0800);
     }
+    // "new bytes_to_go beyond 16,777,215 either way (H)"
     if !togo::new_within_24(p, v) {
         return Receipt::Fails(0x0800);
     }
+    // "body check or its padding"
     if !read::body_checks(packet) {
         return Receipt::Fails(0x0200);
     }
@@ -41,12 +45,15 @@ fn receipt_in(s: Saved, receive: &[u32], bytes: usize, packet: &[u8], p: Packet)
     let h = p.header;
     let i = SlotIndex(h.address1 / 0x1_0000 % 0x1_0000);
     let v = tables::slot_at(receive, i);
+    // "slot not valid"
     if !slots::slot_ok(v, bytes) {
         return Receipt::Fails(0x8000);
     }
+    // "incarnation"
     if h.control0 / 0x100_0000 % 16 != s.pcsr0 / 0x1_0000 % 16 {
         return Receipt::Fails(0x0100);
     }
+    // "ack: notice to ack_note_index, no slot change, end"
     if h.control0 / 0x2000_0000 % 2 == 1 {
         return Receipt::Acks(i);
     }
@@ -58,17 +65,21 @@ pub(crate) fn receipt_of(s: Saved, receive: &[u32], bytes: usize, packet: &[u8])
     requires { ⌜ Judgeable s (now receive) (now packet) ⌝ }
     ensures { λ r. ⌜ r ≡ receiptOf s (now (receive .entry)) bytes (now (packet .entry)) ⌝ }
 {
+    // "header check"
     if !read::header_checks(packet) {
         return Receipt::Fails(0x0400);
     }
     let p = read::fields(packet);
     let h = p.header;
+    // "zero and reserved fields, meta_len as meta_cnt, ack is 20 bytes (H)"
     if !read::fields_ok(p) {
         return Receipt::Fails(0x0080);
     }
+    // "dst_node is ours"
     if h.address0 / 0x1_0000 % 0x1000 != s.pcsr0 % 0x1_0000 {
         return Receipt::Fails(0x2000);
     }
+    // "slot at or above the count (H)"
     if s.slots <= h.address1 / 0x1_0000 % 0x1_0000 {
         return Receipt::Fails(0x4000);
     }

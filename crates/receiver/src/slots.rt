@@ -9,6 +9,7 @@ pub(crate) fn slot_ok(v: Slot, bytes: usize) -> bool
     ensures { λ r. ⌜ r ≡ slotOk v bytes ⌝ }
 {
     let flags = v.noteandflags;
+    // In the clause's order: valid, indirect, reserve; base and size; bytes_to_go; ack_note_index; note_index if notify; words 4, 5 and 7.
     (flags / 0x8000 % 2 == 1)
         & !(flags / 0x4000 % 2 == 1)
         & (flags % 0x1000 == 0)

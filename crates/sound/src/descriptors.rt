@@ -46,6 +46,7 @@ pub fn go_rule(d: Descriptor, control1: u32, size: u32, bytes: usize) -> bool
     ensures { λ r. ⌜ r ≡ goRule d control1 size bytes ⌝ }
 {
     let control_packet = control1 / 0x4000_0000 % 2 == 1;
+    // In the clause's order: meta_cnt; control0's reserved bit; ack_pkt; note_index with notify; the size without control_pkt.
     meta_ok(control1)
         & (d.control0 / 0x1000_0000 % 2 == 0)
         & (!(d.control0 / 0x2000_0000 % 2 == 1)

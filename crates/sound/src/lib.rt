@@ -32,7 +32,7 @@ pub fn sizes_ok(send: usize, receive: usize, bytes: usize, notices: usize) -> bo
         & (notices % 8 == 0)
 }
 
-// The machine is sound. The scans wait for the registers and queues, so that none is longer than its queue.
+// The machine is sound. The lists are scanned only once the queues are in range, so that no scan is longer than a queue.
 pub fn sound_ok(s: Saved, send: &[u32], receive: &[u32], bytes: usize, notices: usize) -> bool
     requires { ⌜ Sized (length (now send)) (length (now receive)) bytes notices ⌝ }
     ensures { λ r. ⌜ r ≡ soundOk s (now (send .entry)) (now (receive .entry)) bytes notices ⌝ }
@@ -46,7 +46,7 @@ pub fn sound_ok(s: Saved, send: &[u32], receive: &[u32], bytes: usize, notices: 
         & descriptors::descriptors_ok(send, bytes)
 }
 
-// The first two rows of every call: sizes, unsound, or on.
+// The first two rows of every call's refusals: sizes, unsound; or the call goes on.
 pub fn gate(s: Saved, send: &[u32], receive: &[u32], bytes: usize, notices: usize) -> Verdict
     ensures { λ r. ⌜ Gated s (now (send .entry)) (now (receive .entry)) bytes notices r ⌝ }
 {
