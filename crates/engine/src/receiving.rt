@@ -1,5 +1,5 @@
 // The receive.
-use crate::refusing::refuse;
+use replies::refuse;
 use rules::Answer;
 use rules::Receiving;
 use rules::Saved;

@@ -1,7 +1,7 @@
-// A refusal, and the call that is nothing else.
+// The call that is nothing but a refusal.
+use replies::refuse;
 use rules::Answer;
 use rules::Refusal;
-use rules::Reply;
 use rules::Saved;
 use rules::Verdict;
 ghost use mathlib.Core.List.{[]};
@@ -9,18 +9,6 @@ ghost use mathlib.Core.Path.{_≡_};
 ghost use Rattle.rules.specs.Memory.{machine};
 ghost use Rattle.rules.specs.Replies.{answered};
 ghost use Rattle.rules.specs.Calls.{unknownCall};
-ghost use Rattle.engine.specs.Refusing.{Refuses};
-
-// "Every reply but done and fault is a refusal": the saved state as it was, no interrupt.
-pub fn refuse(s: Saved, why: Refusal) -> Answer
-    ensures { λ r. ⌜ Refuses s why r ⌝ }
-{
-    Answer {
-        reply: Reply::Refused(why),
-        interrupts: 0,
-        saved: s,
-    }
-}
 
 // no-register: "unknown call".
 pub fn unknown(s: Saved, send: &[u32], receive: &[u32], bytes: &[u8], notices: &[u32]) -> Answer

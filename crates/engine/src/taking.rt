@@ -1,5 +1,5 @@
 // The take.
-use crate::refusing::refuse;
+use replies::refuse;
 use rules::Answer;
 use rules::Saved;
 use rules::Taking;

@@ -1,6 +1,6 @@
 -- A write acted on, by its verdict. Assumes nothing.
 use mathlib.Core.Path.{_≡_, ap}
-use mathlib.Core.List.{List}
+use mathlib.Core.List.{List, []}
 use Prim.Native.Nat.{ℕ}
 use lib.ListN.{length}
 use Rattle.rules.specs.declared.Answer.{Answer}
@@ -17,6 +17,7 @@ use Rattle.rules.specs.Board.{Board}
 use Rattle.rules.specs.Registers.{decode, stepped}
 use Rattle.rules.specs.Writes.{numberSet, sendStored, receiveStored}
 use Rattle.rules.specs.Calls.{writeDone, actWrite}
+use Rattle.replies.specs.Refusing.{Refuses}
 use Rattle.notices.specs.Steps.{Pushable, Returns}
 use Rattle.registers.specs.Writing.{Rams, InSend, InReceive, Writable, Resets, Writes}
 
@@ -42,10 +43,9 @@ abbrev carried : ℕ → Saved → Answer
 carried a s = record { reply = Reply.Done 0; interrupts = 0; saved = stepped (decode a) s }
 
 module _ (a v : ℕ) (s : Saved) (send receive notices : List ℕ) {w : Writing} where
-  pub acts-no : (why : Refusal) → w ≡ Writing.No why
-      → Writes w a v s send receive notices (record { reply = Reply.Refused why; interrupts = 0; saved = s }) send receive notices
+  pub acts-no : (why : Refusal) {r : Answer} → w ≡ Writing.No why → Refuses s why r → Writes w a v s send receive notices r send receive notices
   unfolding actWrite
-  acts-no why is = record { whole = λ bytes. rw is }
+  acts-no why is told = record { whole = λ bytes. rw is (told .whole send receive bytes notices []) }
 
   module _ {s₂ : Saved} {r : Answer} (told : r ≡ carried a s₂) where
     pub acts-reset : (send₂ receive₂ notices₂ : List ℕ) → w ≡ Writing.Reset → Resets v send receive notices s₂ send₂ receive₂ notices₂

@@ -1,7 +1,7 @@
 -- The steps of a read, put together. Assumes nothing.
 use mathlib.Core.Path.{_≡_, refl, sym, ap, _∙_}
 use mathlib.Core.Bool.{Bool, true, false, _&&_, true≢false}
-use mathlib.Core.List.{List}
+use mathlib.Core.List.{List, []}
 use Prim.Native.Nat.{ℕ, _+_, _-_, _*_, _/_, _%_, _<_, _≤_}
 use native.Mathlib.Omega.{arith}
 use borrow.Author.Tests.{ltb-true}
@@ -22,6 +22,7 @@ use Rattle.rules.specs.Memory.{Machine, machine, slot, slotWord}
 use Rattle.rules.specs.Registers.{decode, reach, stepped, pcsr1, shows, shownItself}
 use Rattle.rules.specs.Slots.{slotAt}
 use Rattle.rules.specs.Calls.{judgeRead, readDone, actRead}
+use Rattle.replies.specs.Refusing.{Refuses}
 use Rattle.sound.specs.Facts.{Sound}
 use Rattle.sound.proofs.Passing.{past-gate}
 use Rattle.registers.specs.Reading.{Showable, InsideReceive, Readable, SlotShows, Answers, Reads}
@@ -93,10 +94,9 @@ module _ (r : Mapped) (s : Saved) (send receive : List ℕ) {v : Reach} where
   receive-asks p i is = p .inreceive i is
 
   -- What each case gives.
-  pub read-refused : (why : Refusal) → v ≡ Reach.No why
-      → Reads r v s send receive (record { reply = Reply.Refused why; interrupts = 0; saved = s })
+  pub read-refused : (why : Refusal) {a : Answer} → v ≡ Reach.No why → Refuses s why a → Reads r v s send receive a
   unfolding actRead
-  read-refused why is = record { whole = λ bytes notices. rw is }
+  read-refused why is told = record { whole = λ bytes notices. rw is (told .whole send receive bytes notices []) }
 
   pub read-itself : (x : Register) {w : Shown} {a : Answer} → v ≡ Reach.Itself x → w ≡ shownItself s receive x → Answers r w a
       → Reads r v s send receive a

@@ -3,6 +3,7 @@ use crate::map;
 use crate::reset;
 use crate::storing;
 use notices::push_nbqr;
+use replies::refuse;
 use rules::Answer;
 use rules::Reply;
 use rules::Saved;
@@ -37,11 +38,7 @@ pub fn act_write(
     ensures { λ r. ⌜ Writes w a v s (now (send .entry)) (now (receive .entry)) (now (notices .entry)) r (now (send .exit)) (now (receive .exit)) (now (notices .exit)) ⌝ }
 {
     match w {
-        Writing::No(why) => Answer {
-            reply: Reply::Refused(why),
-            interrupts: 0,
-            saved: s,
-        },
+        Writing::No(why) => refuse(s, why),
         Writing::Reset => {
             let saved = reset::reset(v, send, receive, notices);
             done(a, saved)

@@ -1,5 +1,6 @@
 // The read: what it reaches, or why it is refused; and the word that it shows.
 use crate::map;
+use replies::refuse;
 use rules::AQR_FROM;
 use rules::Answer;
 use rules::Mapped;
@@ -175,11 +176,7 @@ pub fn act_read(r: Mapped, v: Reach, s: Saved, send: &[u32], receive: &[u32]) ->
     ensures { λ a. ⌜ Reads r v s (now (send .entry)) (now (receive .entry)) a ⌝ }
 {
     match v {
-        Reach::No(why) => Answer {
-            reply: Reply::Refused(why),
-            interrupts: 0,
-            saved: s,
-        },
+        Reach::No(why) => refuse(s, why),
         Reach::Itself(x) => read_done(r, shown_itself(s, receive, x)),
         Reach::InSend(i) => read_done(r, shows(s, send[i as usize])),
         Reach::InReceive(i) => read_done(r, shows(s, receive_word(receive, i))),

@@ -1,8 +1,11 @@
-// A reply's number and value, by the cases of the enums.
+// A reply's number and value, by the cases of the enums; and the answer of a refusal.
+use rules::Answer;
 use rules::Refusal;
 use rules::Reply;
+use rules::Saved;
 ghost use mathlib.Core.Path.{_≡_};
 ghost use Rattle.rules.specs.Replies.{refusalNumber, replyNumber, replyValue};
+ghost use Rattle.replies.specs.Refusing.{Refuses};
 
 // The column "No." of the reply table, for a refusal.
 fn refusal_number(why: Refusal) -> u32
@@ -45,5 +48,16 @@ pub fn value_of(reply: Reply) -> u32
         Reply::Done(value) => value,
         Reply::Fault(status) => status,
         Reply::Refused(_) => 0,
+    }
+}
+
+// "Every reply but done and fault is a refusal": the saved state as it was, no interrupt.
+pub fn refuse(s: Saved, why: Refusal) -> Answer
+    ensures { λ r. ⌜ Refuses s why r ⌝ }
+{
+    Answer {
+        reply: Reply::Refused(why),
+        interrupts: 0,
+        saved: s,
     }
 }

@@ -31,6 +31,7 @@ use Rattle.rules.specs.Packet.{payloadMost, packetMost, headerBytes, metadataBy
 use Rattle.rules.specs.Notices.{postAll}
 use Rattle.rules.specs.Sending.{descriptorAt, storeDescriptor, isLast, withStalled, withoutStalled, withDone, nextPayload, sendPosting, nextBytes, nextHeader, nextPacket, afterPacket, markStalled}
 use Rattle.rules.specs.Calls.{packetFrom, sent, actSend}
+use Rattle.replies.specs.Refusing.{Refuses}
 use Rattle.packet.specs.Packet.{Forming, Formed}
 use Rattle.notices.specs.declared.Step.{Step}
 use Rattle.notices.specs.Steps.{Posts, PostableAll}
@@ -202,10 +203,10 @@ acted i s send receive bytes notices room send₂ receive₂ notices₂ room₂ 
     record { whole = rw (p .packet, p .size, p .moved, ← p .posting, ← posts .whole 0, zero-add (told .interrupts)) }
 
 -- Nothing but the mark.
-pub marked : (i : DescriptorIndex) (s : Saved) (send : List ℕ) (w : ℕ) → w ≡ withStalled (getD send (descriptorWord i 6) 0)
-    → Marks i s send (record { reply = Reply.Refused Refusal.Fabric; interrupts = 0; saved = s }) (set send (descriptorWord i 6) w)
+pub marked : (i : DescriptorIndex) (s : Saved) (send : List ℕ) (w : ℕ) (r : Answer) → w ≡ withStalled (getD send (descriptorWord i 6) 0)
+    → Refuses s Refusal.Fabric r → Marks i s send r (set send (descriptorWord i 6) w)
 unfolding actSend markStalled descriptorAt
-marked i s send w e = record { whole = λ receive bytes notices room. record { whole = rw e } }
+marked i s send w r e told = record { whole = λ receive bytes notices room. record { whole = told .whole _ receive bytes notices room ∙ rw e } }
 
 -- What each verdict asks.
 module _ (v : Sending) (s : Saved) (send receive : List ℕ) (dataLength n room : ℕ) (i : DescriptorIndex) (a : Sendable v s send receive dataLength n room) where
@@ -218,10 +219,9 @@ module _ (v : Sending) (s : Saved) (send receive : List ℕ) (dataLength n room 
 -- By what was judged.
 module _ (v : Sending) (s : Saved) (send receive bytes notices room : List ℕ) where
   -- A refusal changes nothing.
-  pub acts-no : (why : Refusal) → v ≡ Sending.No why
-      → Acts v s send receive bytes notices room (record { reply = Reply.Refused why; interrupts = 0; saved = s }) send receive notices room
+  pub acts-no : (why : Refusal) (r : Answer) → v ≡ Sending.No why → Refuses s why r → Acts v s send receive bytes notices room r send receive notices room
   unfolding actSend
-  acts-no why e = record { whole = rw e }
+  acts-no why r e told = record { whole = rw e (told .whole send receive bytes notices room) }
 
   pub acts-sends : (i : DescriptorIndex) (r : Answer) (send₂ receive₂ notices₂ room₂ : List ℕ) → v ≡ Sending.Sends i
       → Acts (Sending.Sends i) s send receive bytes notices room r send₂ receive₂ notices₂ room₂

@@ -3,6 +3,7 @@ use crate::choosing;
 use crate::forming;
 use crate::moving;
 use notices::post_all;
+use replies::refuse;
 use rules::Answer;
 use rules::DescriptorIndex;
 use rules::Posting;
@@ -74,11 +75,7 @@ fn act_waits(i: DescriptorIndex, s: Saved, send: &mut [u32]) -> Answer
 {
     let at = 16 * i.0 as usize + 6;
     send[at] = moving::with_stalled(send[at]);
-    Answer {
-        reply: Reply::Refused(Refusal::Fabric),
-        interrupts: 0,
-        saved: s,
-    }
+    refuse(s, Refusal::Fabric)
 }
 
 // By what was judged.
@@ -95,11 +92,7 @@ pub fn act_send(
     ensures { λ r. ⌜ Acts v s (now (send .entry)) (now (receive .entry)) (now (bytes .entry)) (now (notices .entry)) (now (room .entry)) r (now (send .exit)) (now (receive .exit)) (now (notices .exit)) (now (room .exit)) ⌝ }
 {
     match v {
-        Sending::No(why) => Answer {
-            reply: Reply::Refused(why),
-            interrupts: 0,
-            saved: s,
-        },
+        Sending::No(why) => refuse(s, why),
         Sending::Sends(i) => act_sends(i, s, send, receive, bytes, notices, room),
         Sending::Waits(i) => act_waits(i, s, send),
     }

@@ -9,6 +9,7 @@ act-write-spec =
     tie.close
     (tie.spec
     (λ c. search needs)
+    (λ c κs. search needs)
     (λ c. search needs)
     (λ c κs. search reset-asks)
     (λ c κs. search needs)

@@ -9,6 +9,7 @@ act-read-spec =
     tie.close
     (tie.spec
     (λ c. search needs)
+    (λ c κs. search needs)
     (λ c. search needs)
     (λ c κs. search itself-asks)
     (λ c κs. search needs)

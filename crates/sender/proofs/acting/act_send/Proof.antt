@@ -9,6 +9,7 @@ act-send-spec =
     tie.close
     (tie.spec
     (λ c. search needs)
+    (λ c κs. search needs)
     (λ c. search needs)
     (λ c κs. search sends-asks)
     (λ c. search needs)

@@ -1,0 +1,2 @@
+-- What a refusal answers. Assumes nothing.
+pub mod Refusing
