@@ -114,10 +114,11 @@ formed h m d x y z payload from n r room short most l s e t =
     ap₂ (λ (k : ℕ) (v : List ℕ). part from k v) (sym l) e ∙ part-sets x from payload (omega arith) in
     let p : Stored payload from x y (from + n) = record { room = e; ends = omega arith } in
     let w = then (then s p) (rw q at t) in
+    let few : r ≤ packetMost = omega (arith, length-body-check (part from n y)) in
     record {
-      room =
-          w .room ∙ sets-first (frontBytes h m ++ payload ++ bodyCheckBytes payload) d (omega (arith, length-body-check (part from n y)));
+      room = w .room ∙ sets-first (frontBytes h m ++ payload ++ bodyCheckBytes payload) d (omega arith);
       size = omega arith;
+      short = few;
     }
 
 module _ (h : Header) (m : Metadata) (d x y z source : List ℕ) (at n from r : ℕ) (short : from ≤ 36)

@@ -39,7 +39,8 @@ pub record Stored (bytes : List ℕ) (at : ℕ) (before after : List ℕ) (next 
   pub room : after ≡ sets before at bytes
   pub ends : next ≡ at + length bytes
 
--- The room after a packet of n bytes was formed in it: "Bytes past a sent packet stay".
+-- The room after a packet of n bytes was formed in it, at most 168: "Bytes past a sent packet stay".
 pub record Formed (packet before after : List ℕ) (n : ℕ) : Type 0 where
   pub room : after ≡ over packet before
   pub size : n ≡ length packet
+  pub short : n ≤ packetMost

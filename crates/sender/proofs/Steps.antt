@@ -2,32 +2,30 @@
 use mathlib.Core.Path.{_≡_, refl, sym, ap, _∙_}
 use mathlib.Core.Logic.{_≢_}
 use mathlib.Core.Bool.{Bool, true, false, not}
-use mathlib.Core.List.{List, [], _∷_, _++_}
+use mathlib.Core.List.{List, []}
 use Prim.Native.Nat.{ℕ, _+_, _-_, _*_, _/_, _%_, _^_, _<_, _≤_}
 use native.Mathlib.Decide.{decLt}
 use native.Mathlib.Nat.{zero-add}
 use native.Mathlib.Omega.{arith}
-use lib.ListN.{length, getD, set, drop, length-append, length-take}
+use lib.ListN.{length, getD, set}
 use Rattle.ground.specs.Bytes.{toBytes}
 use Rattle.ground.specs.Field.{without}
 use Rattle.ground.specs.Lists.{part}
-use Rattle.ground.proofs.Bytes.{row-length}
 use Rattle.ground.proofs.Choice.{pick-holds, arm-yes, arm-no}
 use Rattle.ground.proofs.Tests.{flag-no, flag-yes}
 use Rattle.rules.specs.declared.Answer.{Answer}
 use Rattle.rules.specs.declared.Descriptor.{Descriptor}
 use Rattle.rules.specs.declared.DescriptorIndex.{DescriptorIndex}
 use Rattle.rules.specs.declared.Header.{Header}
-use Rattle.rules.specs.declared.Metadata.{Metadata}
 use Rattle.rules.specs.declared.Posting.{Posting}
 use Rattle.rules.specs.declared.Refusal.{Refusal}
 use Rattle.rules.specs.declared.Reply.{Reply}
 use Rattle.rules.specs.declared.Saved.{Saved}
 use Rattle.rules.specs.declared.Sending.{Sending}
 use Rattle.rules.specs.Words.{isDirectIo}
-use Rattle.rules.specs.Memory.{metadataWords, descriptorWord}
+use Rattle.rules.specs.Memory.{descriptorWord}
 use Rattle.rules.specs.Saved.{withLastSender, ownNode}
-use Rattle.rules.specs.Packet.{payloadMost, packetMost, headerBytes, metadataBytes, checkWord, bodyCheckBytes, frontBytes, form}
+use Rattle.rules.specs.Packet.{form}
 use Rattle.rules.specs.Notices.{postAll}
 use Rattle.rules.specs.Sending.{descriptorAt, storeDescriptor, isLast, withStalled, withoutStalled, withDone, nextPayload, sendPosting, nextBytes, nextHeader, nextPacket, afterPacket, markStalled}
 use Rattle.rules.specs.Calls.{packetFrom, sent, actSend}
@@ -37,66 +35,37 @@ use Rattle.notices.specs.declared.Step.{Step}
 use Rattle.notices.specs.Steps.{Posts, PostableAll}
 use Rattle.notices.proofs.Facts.{postable-kept}
 use Rattle.sender.specs.declared.acting.Sent.{Sent}
-use Rattle.sender.specs.Steps.{Payload, Formable, Forms, Movable, Packable, Packs, SendableFrom, Markable, Sendable, Acts, Marks}
-
--- ---- the packet's length
-
--- The metadata has at most 16 bytes.
-metadata-most : (h : Header) (m : Metadata) → length (metadataBytes h m) ≤ 16
-unfolding metadataBytes
-metadata-most h m = pick-holds (λ (l : List ℕ). length l ≤ 16) _ {x = toBytes (metadataWords m)} {y = []} (omega arith) (omega arith)
-
--- The body check has at most four.
-body-check-most : (l : List ℕ) → length (bodyCheckBytes l) ≤ 4
-body-check-most [] = omega arith
-body-check-most (x ∷ l) = omega arith
-
--- Four words and a check word, and the metadata.
-front-most : (h : Header) (m : Metadata) → length (frontBytes h m) ≤ 36
-unfolding frontBytes
-front-most h m =
-    let check : List ℕ = toBytes (checkWord (headerBytes h ++ metadataBytes h m) ∷ []) in
-    omega (arith, length-append (headerBytes h ++ check) (metadataBytes h m), metadata-most h m)
-
--- A packet has at most 168.
-packet-most : (h : Header) (m : Metadata) (p : List ℕ) → length p ≤ payloadMost → length (form h m p) ≤ packetMost
-unfolding form
-packet-most h m p short =
-    omega (arith, length-append (frontBytes h m ++ p) (bodyCheckBytes p), length-append (frontBytes h m) p, front-most h m, body-check-most p)
+use Rattle.sender.specs.Steps.{Payload, Formable, Movable, Packable, Packs, SendableFrom, Markable, Sendable, Acts, Marks}
 
 -- ---- forming
 
 module _ (node : ℕ) (d : Descriptor) (send bytes room room₂ : List ℕ) (h : Header) (n r : ℕ) (head : h ≡ nextHeader node d)
     (size : Payload d n) where
   -- What was formed is the next packet.
-  is-next : (p : List ℕ) → p ≡ nextBytes d send bytes → length p ≤ payloadMost → Formed (form h (d .metadata) p) room room₂ r
-      → Forms node d send bytes room room₂ r
+  is-next : (p : List ℕ) → p ≡ nextBytes d send bytes → Formed (form h (d .metadata) p) room room₂ r
+      → Formed (nextPacket node d send bytes) room room₂ r
   unfolding nextPacket
-  is-next p e short f = record { formed = rw (← e, ← head) f; short = omega (arith, f .size, packet-most h (d .metadata) p short) }
+  is-next p e f = rw (← e, ← head) f
 
   -- Its payload is empty.
   pub formed-empty : n ≡ 0 → Formed (form h (d .metadata) (part 0 0 bytes)) room room₂ r
-      → Forms node d send bytes room room₂ r
+      → Formed (nextPacket node d send bytes) room room₂ r
   unfolding nextBytes
   formed-empty none =
       let zero : nextPayload d ≡ 0 = sym (size .next) ∙ none in
-      let e : [] ≡ nextBytes d send bytes = rw zero (pick-holds (λ (l : List ℕ). [] ≡ l) (isDirectIo (d .control1)) refl refl) in
-      is-next [] e (omega arith)
+      is-next [] (rw zero (pick-holds (λ (l : List ℕ). [] ≡ l) (isDirectIo (d .control1)) refl refl))
 
   -- Its payload is words of Send RAM.
   pub formed-direct : isDirectIo (d .control1) ≡ true → Formed (form h (d .metadata) (toBytes (part (d .msgaddress / 4) (n / 4) send))) room room₂ r
-      → Forms node d send bytes room room₂ r
+      → Formed (nextPacket node d send bytes) room room₂ r
   unfolding nextBytes
-  formed-direct e =
-      let words : List ℕ = part (d .msgaddress / 4) (n / 4) send in
-      is-next (toBytes words) (rw (size .next) (arm-yes _ e refl)) (omega (arith, row-length words, length-take (n / 4) (drop (d .msgaddress / 4) send)))
+  formed-direct e = is-next (toBytes (part (d .msgaddress / 4) (n / 4) send)) (rw (size .next) (arm-yes _ e refl))
 
   -- Its payload is bytes of data memory.
   pub formed-data : isDirectIo (d .control1) ≡ false → Formed (form h (d .metadata) (part (d .msgaddress) n bytes)) room room₂ r
-      → Forms node d send bytes room room₂ r
+      → Formed (nextPacket node d send bytes) room room₂ r
   unfolding nextBytes
-  formed-data e =
-      is-next (part (d .msgaddress) n bytes) (rw (size .next) (arm-no _ e refl)) (omega (arith, length-take n (drop (d .msgaddress) bytes)))
+  formed-data e = is-next (part (d .msgaddress) n bytes) (rw (size .next) (arm-no _ e refl))
 
   -- What forming asks, where the payload is not empty.
   module _ (some : n ≢ 0) (ask : Formable node d (length send) (length bytes) (length room)) where
@@ -173,12 +142,12 @@ module _ (i : DescriptorIndex) (node : ℕ) (send : List ℕ) {w : Descriptor} (
 
   -- What they leave.
   pub packed : (bytes room room₂ send₂ : List ℕ) (n : ℕ) {v : Descriptor} {q : Posting}
-      → Forms node w send bytes room room₂ n → v ≡ afterPacket w → send₂ ≡ storeDescriptor send i v → q ≡ sendPosting w
+      → Formed (nextPacket node w send bytes) room room₂ n → v ≡ afterPacket w → send₂ ≡ storeDescriptor send i v → q ≡ sendPosting w
       → Packs i node send bytes room (record { length = n; posting = q }) send₂ room₂
   packed bytes room room₂ send₂ n f after stored posts =
       record {
-        packet = f .formed .room ∙ rw at;
-        size = f .formed .size ∙ rw at;
+        packet = f .room ∙ rw at;
+        size = f .size ∙ rw at;
         posting = posts ∙ rw at;
         moved = stored ∙ rw (after, at);
       }

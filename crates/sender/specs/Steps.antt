@@ -17,7 +17,6 @@ use Rattle.rules.specs.Packet.{payloadMost, packetMost}
 use Rattle.rules.specs.Sending.{descriptorAt, storeDescriptor, isActive, nextPayload, sendPosting, nextPacket, afterPacket}
 use Rattle.rules.specs.Replies.{answered}
 use Rattle.rules.specs.Calls.{actSend}
-use Rattle.packet.specs.Packet.{Formed}
 use Rattle.notices.specs.Steps.{Listed, PostableAll}
 use Rattle.sender.specs.declared.acting.Sent.{Sent}
 
@@ -49,11 +48,6 @@ pub record Formable (node : ℕ) (d : Descriptor) (sendLength dataLength room : 
   pub roomy : packetMost ≤ room
   pub bytes : 0 < nextPayload d → isDirectIo (d .control1) ≡ false → d .msgaddress + nextPayload d ≤ dataLength
   pub direct : 0 < nextPayload d → isDirectIo (d .control1) ≡ true → d .msgaddress / 4 + nextPayload d / 4 ≤ sendLength
-
--- The next packet of a descriptor stands in the room, and ends within 168 bytes.
-pub record Forms (node : ℕ) (d : Descriptor) (send bytes room room₂ : List ℕ) (n : ℕ) : Type 0 where
-  pub formed : Formed (nextPacket node d send bytes) room room₂ n
-  pub short : n ≤ packetMost
 
 -- A descriptor can move on: its address can rise by the payload, if any.
 pub record Movable (d : Descriptor) : Type 0 where

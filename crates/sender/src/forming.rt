@@ -6,8 +6,9 @@ use rules::Header;
 ghost use mathlib.Core.Path.{_≡_};
 ghost use Prim.Native.Nat.{_≤_};
 ghost use lib.ListN.{length};
-ghost use Rattle.rules.specs.Sending.{nextHeader};
-ghost use Rattle.sender.specs.Steps.{Formable, Forms};
+ghost use Rattle.rules.specs.Sending.{nextHeader, nextPacket};
+ghost use Rattle.packet.specs.Packet.{Formed};
+ghost use Rattle.sender.specs.Steps.{Formable};
 
 // Words 0 to 3: address0, the slot and this node, control0, and of control1 the flag, the count and the size.
 fn next_header(node: u32, d: Descriptor) -> Header
@@ -31,7 +32,7 @@ pub(crate) fn next_packet(
     room: &mut [u8],
 ) -> usize
     requires { ⌜ Formable node d (length (now send)) (length (now bytes)) (length (now room)) ⌝ }
-    ensures { λ r. ⌜ Forms node d (now (send .entry)) (now (bytes .entry)) (now (room .entry)) (now (room .exit)) r ⌝ }
+    ensures { λ r. ⌜ Formed (nextPacket node d (now (send .entry)) (now (bytes .entry))) (now (room .entry)) (now (room .exit)) r ⌝ }
 {
     let header = next_header(node, d);
     let metadata = d.metadata;
