@@ -13,6 +13,7 @@ use Rattle.ground.proofs.Lists.{getD-sets-after}
 use Rattle.ground.proofs.Tests.{and-left, and-right, or-second, not-no}
 use Rattle.rules.specs.declared.BlockAddress.{BlockAddress}
 use Rattle.rules.specs.declared.ListIndex.{ListIndex}
+use Rattle.rules.specs.declared.Notice.{Notice}
 use Rattle.rules.specs.declared.Posting.{Posting}
 use Rattle.rules.specs.declared.Queue.{Queue}
 use Rattle.rules.specs.declared.Refusal.{Refusal}
@@ -34,6 +35,14 @@ use Rattle.notices.specs.Steps.{Pushable, Does, Postable, Listed, Postab
 -- A queue of a sound machine that has room.
 pub pushable : (q : Queue) (receive : List ℕ) → Ring q → length receive ≡ receiveSize → hasRoom q ≡ true → Pushable q receive
 pushable q receive ring size h = record { size = size; place = ring .place; room = ltb-true _ _ h }
+
+-- A notice on a list is on that list alone.
+pub on-list : {l : ListIndex} {m : Notice} → l .0 < lists → Listed (Posting.On l m)
+on-list {l} low = record { low = λ k m e. let same : l ≡ k = cc in rw (← same) low }
+
+-- No notice is on none.
+pub on-none : Listed Posting.Silent
+on-none = record { low = λ l m e. let z : _≡_ {A = ℕ} 0 1 = cc in absurd (omega arith) }
 
 module _ (s : Saved) (send receive : List ℕ) (dataLength n : ℕ) (sound : Sound s send receive dataLength n) where
   -- A list of a sound machine that can be posted to.

@@ -9,10 +9,7 @@ use lib.Dec.{ltb}
 use lib.ListN.{length}
 use Rattle.ground.proofs.Choice.{pick-by, need-holds, went}
 use Rattle.ground.proofs.Tests.{and-left, and-right, or-second, not-no}
-use Rattle.rules.specs.declared.ListIndex.{ListIndex}
-use Rattle.rules.specs.declared.Notice.{Notice}
 use Rattle.rules.specs.declared.Packet.{Packet}
-use Rattle.rules.specs.declared.Posting.{Posting}
 use Rattle.rules.specs.declared.Receipt.{Receipt}
 use Rattle.rules.specs.declared.Receiving.{Receiving}
 use Rattle.rules.specs.declared.Refusal.{Refusal}
@@ -31,7 +28,7 @@ use Rattle.packet.specs.Packet.{Sized}
 use Rattle.packet.proofs.Reading.{sized}
 use Rattle.sound.proofs.Passing.{past-gate}
 use Rattle.notices.specs.Steps.{Listed}
-use Rattle.notices.proofs.Facts.{pushable, postable-all}
+use Rattle.notices.proofs.Facts.{pushable, on-list, on-none, postable-all}
 use Rattle.receiver.specs.Acting.{Usable, Known, Receivable}
 use Rattle.receiver.specs.Judging.{Judgeable, Valid, Fitting, Told, Answerable}
 
@@ -147,23 +144,15 @@ module _ (v : Slot) (dataLength : ℕ) (ok : slotOk v dataLength ≡ true) where
 slot-low : {s : Saved} {receive : List ℕ} {dataLength : ℕ} {i : SlotIndex} → s .slots ≤ slotsMost → Valid s receive dataLength i → i .0 < slotsMost
 slot-low h v = omega (arith, v .low)
 
--- A posting on a list is on that list alone.
-on-one : {l₀ : ListIndex} {n : Notice} → l₀ .0 < lists → Listed (Posting.On l₀ n)
-on-one {l₀} low = record { low = λ l m e. let same : l₀ ≡ l = cc in rw (← same) low }
-
--- None is on none.
-on-none : Listed Posting.Silent
-on-none = record { low = λ l m e. let z : _≡_ {A = ℕ} 0 1 = cc in absurd (omega arith) }
-
 module _ (s : Saved) (receive : List ℕ) (dataLength : ℕ) (p : Packet) where
   -- What a receipt posts is on one of the 64 lists.
   listed : (r : Receipt) → Told s receive dataLength p r → Listed (receiptPosting receive p r)
   unfolding receiptPosting
-  listed (Receipt.Fails status) t = on-one (omega arith)
-  listed (Receipt.Acks i) t = on-one (ack-list (slotAt receive i) dataLength (t .acks i refl .ok))
+  listed (Receipt.Fails status) t = on-list (omega arith)
+  listed (Receipt.Acks i) t = on-list (ack-list (slotAt receive i) dataLength (t .acks i refl .ok))
   listed (Receipt.Lands i) t =
       pick-by Listed _
-      (λ e. on-one (message-list (slotAt receive i) dataLength (t .lands i refl .ok) (and-right (completes p (slotAt receive i)) _ e)))
+      (λ e. on-list (message-list (slotAt receive i) dataLength (t .lands i refl .ok) (and-right (completes p (slotAt receive i)) _ e)))
       (λ e. on-none)
 
   -- What acting knows of it.

@@ -11,14 +11,12 @@ use Rattle.ground.proofs.Tests.{and-left, and-right}
 use Rattle.rules.specs.declared.Descriptor.{Descriptor}
 use Rattle.rules.specs.declared.DescriptorIndex.{DescriptorIndex}
 use Rattle.rules.specs.declared.Found.{Found}
-use Rattle.rules.specs.declared.Notice.{Notice}
-use Rattle.rules.specs.declared.Posting.{Posting}
 use Rattle.rules.specs.declared.Refusal.{Refusal}
 use Rattle.rules.specs.declared.Saved.{Saved}
 use Rattle.rules.specs.declared.Sending.{Sending}
 use Rattle.rules.specs.declared.Verdict.{Verdict}
 use Rattle.rules.specs.Words.{isControlPkt, isDirectIo, notifies, noteIndex}
-use Rattle.rules.specs.Memory.{Machine, dataMost, directTo, lists, list, descriptors, descriptor}
+use Rattle.rules.specs.Memory.{Machine, dataMost, directTo, lists, descriptors, descriptor}
 use Rattle.rules.specs.Packet.{packetMost}
 use Rattle.rules.specs.Sending.{descriptorAt, isActive, nextPayload, isLast, sendPosting, isReady, firstFrom, nextSender}
 use Rattle.rules.specs.Calls.{sendingOf, judgeSend}
@@ -26,19 +24,11 @@ use Rattle.sound.specs.Facts.{Going, Sound}
 use Rattle.sound.specs.Gated.{Gated}
 use Rattle.sound.proofs.Passing.{past-gate, gated-sound}
 use Rattle.notices.specs.Steps.{Listed}
-use Rattle.notices.proofs.Facts.{postable-all}
+use Rattle.notices.proofs.Facts.{on-list, on-none, postable-all}
 use Rattle.sender.specs.Steps.{Choosable, SendableFrom, Sendable}
 use Rattle.sender.proofs.Choice.{none-sent}
 
 -- ---- choosing
-
--- A notice on list n is on one of the 64 where n is below 64.
-on-list : {n : ℕ} {m : Notice} → n < lists → Listed (Posting.On (list n) m)
-on-list {n} low = record { low = λ l m e. let same : list n ≡ l = cc in rw (← same) low }
-
--- No notice is on none.
-on-none : Listed Posting.Silent
-on-none = record { low = λ l m e. let z : _≡_ {A = ℕ} 0 1 = cc in absurd (omega arith) }
 
 -- What a descriptor posts is on a list, where with notify note_index is below 64.
 listed : (d : Descriptor) → (notifies (d .control1) ≡ true → noteIndex (d .address1) < lists) → Listed (sendPosting d)

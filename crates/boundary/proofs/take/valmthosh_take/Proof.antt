@@ -18,8 +18,4 @@ valmthosh-take-spec =
     (λ c. search needs)
     (λ c. search needs)
     (λ c. search needs)
-    (λ c.
-    let ended = c .before .before .before .before in
-    let called = ended .before .before .before .before .before .before .before .before .before in
-    let loaded = called .before .before .before .before in
-    ends _ _ (search needs) (loaded .load .ensures) (called .take .ensures) (ended .finish .ensures)))
+    (λ c. search (ends, needs)))

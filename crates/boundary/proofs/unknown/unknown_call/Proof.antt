@@ -15,8 +15,4 @@ unknown-call-spec =
     (λ c κs. search needs)
     (λ c. search needs)
     (λ c. search needs)
-    (λ c.
-    let ended = c .before .before .before .before in
-    let called = ended .before .before .before in
-    let loaded = called .before in
-    ends _ _ (search needs) (loaded .load .ensures) (called .unknown .ensures) (ended .finish .ensures)))
+    (λ c. search (ends, needs)))
