@@ -16,7 +16,7 @@ use Rattle.rules.specs.declared.Refusal.{Refusal}
 use Rattle.rules.specs.declared.Saved.{Saved}
 use Rattle.rules.specs.declared.Slot.{Slot}
 use Rattle.rules.specs.declared.SlotIndex.{SlotIndex}
-use Rattle.rules.specs.Words.{dstSlot}
+use Rattle.rules.specs.Words.{dstSlot, offset}
 use Rattle.rules.specs.Memory.{Machine, receiveSize, slotsMost, slot, lists}
 use Rattle.rules.specs.Queues.{hasRoom}
 use Rattle.rules.specs.Packet.{packetMost, payloadLength, packetOf, isPacket}
@@ -30,7 +30,7 @@ use Rattle.sound.proofs.Passing.{past-gate}
 use Rattle.notices.specs.Steps.{Listed}
 use Rattle.notices.proofs.Facts.{pushable, on-list, on-none, postable-all}
 use Rattle.receiver.specs.Acting.{Usable, Known, Receivable}
-use Rattle.receiver.specs.Judging.{Judgeable, Valid, Fitting, Told, Answerable}
+use Rattle.receiver.specs.Judging.{Judgeable, Valid, Told, Answerable}
 
 -- ---- a payload is a part of its packet
 
@@ -78,7 +78,8 @@ module _ (s : Saved) (receive : List ℕ) (dataLength : ℕ) (p : Packet) where
       }
 
   -- The slot that data lands in is valid, and the data fits.
-  told-data : (i : SlotIndex) → Valid s receive dataLength i → Fitting receive p i → Told s receive dataLength p (Receipt.Lands i)
+  told-data : (i : SlotIndex) → Valid s receive dataLength i → offset (p .header .control0) + p .payloadlength ≤ slotAt receive i .size
+      → Told s receive dataLength p (Receipt.Lands i)
   told-data i v f =
       record {
         status = λ k e. absurd (fault-no-data (sym e));
@@ -108,7 +109,7 @@ module _ (s : Saved) (receive : List ℕ) (dataLength : ℕ) (packet : List ℕ)
       need-holds P _ (λ e. fault _ (omega arith)) (λ buffer.
       need-holds P _ (λ e. fault _ (omega arith)) (λ bytestogo.
       need-holds P _ (λ e. fault _ (omega arith)) (λ body.
-      told-data s receive dataLength p i v (record { buffer = leb-true _ _ buffer; bytestogo = bytestogo }))))))))))))
+      told-data s receive dataLength p i v (leb-true _ _ buffer))))))))))))
 
 -- ---- what a valid slot says
 
@@ -205,7 +206,7 @@ receivable m packet {r} h =
     record {
       sized = j .sized;
       known = a .known;
-      fits = λ i e. omega (arith, payload-same packet, buffer-inside (slotAt receive i) (length (m .bytes)) (t .lands i e .ok), t .fits i e .buffer);
+      fits = λ i e. omega (arith, payload-same packet, buffer-inside (slotAt receive i) (length (m .bytes)) (t .lands i e .ok), t .fits i e);
       posting = postable-all s (m .send) receive _ _ sound (receiptPosting receive p r) (a .listed) (and-left (canPostAll s receive (receiptPosting receive p r)) _ free);
       aqr = λ e. pushable (s .aqr) receive (sound .aqr) (j .size) (or-second (not (needsAqr receive p r)) _ (and-right (canPostAll s receive (receiptPosting receive p r)) _ free) (not-no e));
     }

@@ -14,8 +14,8 @@ use Rattle.rules.specs.Words.{dstNode, dstSlot, isAckPkt, incarnation, offset}
 use Rattle.rules.specs.Memory.{receiveSize, slotsMost, slot}
 use Rattle.rules.specs.Saved.{ownIncarnation, ownNode}
 use Rattle.rules.specs.Packet.{packetMost, packetOf, headerChecks, fieldsOk}
-use Rattle.rules.specs.Slots.{slotAt, slotOk, within24}
-use Rattle.rules.specs.Receipt.{newBytesToGo, receiptOf, receiptPosting}
+use Rattle.rules.specs.Slots.{slotAt, slotOk}
+use Rattle.rules.specs.Receipt.{receiptOf, receiptPosting}
 use Rattle.packet.specs.Packet.{Sized}
 use Rattle.notices.specs.Steps.{Listed}
 use Rattle.receiver.specs.ToGo.{Countable}
@@ -64,17 +64,12 @@ pub record Valid (s : Saved) (receive : List ℕ) (dataLength : ℕ) (i : SlotIn
   pub low : i .0 < s .slots
   pub ok : slotOk (slotAt receive i) dataLength ≡ true
 
--- A packet's data fits in the slot's buffer, and its bytes_to_go in the range.
-pub record Fitting (receive : List ℕ) (p : Packet) (i : SlotIndex) : Type 0 where
-  pub buffer : offset (p .header .control0) + p .payloadlength ≤ slotAt receive i .size
-  pub bytestogo : within24 (newBytesToGo p (slotAt receive i)) ≡ true
-
--- By what the packet comes to.
+-- By what the packet comes to; data that lands fits in the slot's buffer.
 pub record Told (s : Saved) (receive : List ℕ) (dataLength : ℕ) (p : Packet) (r : Receipt) : Type 0 where
   pub status : (status : ℕ) → r ≡ Receipt.Fails status → status < 2 ^ 16
   pub acks : (i : SlotIndex) → r ≡ Receipt.Acks i → Valid s receive dataLength i
   pub lands : (i : SlotIndex) → r ≡ Receipt.Lands i → Valid s receive dataLength i
-  pub fits : (i : SlotIndex) → r ≡ Receipt.Lands i → Fitting receive p i
+  pub fits : (i : SlotIndex) → r ≡ Receipt.Lands i → offset (p .header .control0) + p .payloadlength ≤ slotAt receive i .size
 
 -- ---- what finding room asks
 

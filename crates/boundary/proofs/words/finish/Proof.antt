@@ -1,6 +1,5 @@
 -- `boundary::words::finish` meets its contract. Assumes nothing.
 use borrow.Author.Needs.{needs}
-use native.Mathlib.Omega.{arith}
 use lib.ListN.{length-set}
 use Rattle.boundary.proofs.words.finish.Statement.{statement}
 use Rattle.boundary.proofs.words.finish.Tie as tie
