@@ -46,6 +46,7 @@ pub fn payload(packet: &[u8]) -> &[u8]
 {
     let from = payload_from(packet);
     let end = packet.len() - 4;
+    // A packet without payload has no body check either.
     if end < from {
         return &packet[from..from];
     }
@@ -123,6 +124,7 @@ pub fn fields_ok(p: Packet) -> bool
     ensures { λ r. ⌜ r ≡ fieldsOk p ⌝ }
 {
     let h = p.header;
+    // Word 1's zero 4, word 2's reserved bit, word 3's zero 4, word 4's zero 16; meta_len; an ack's length.
     (h.address1 % 16 == 0)
         & (h.control0 / 0x1000_0000 % 2 == 0)
         & (h.control1 / 0x1000_0000 % 16 == 0)

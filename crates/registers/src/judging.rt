@@ -130,7 +130,7 @@ fn reached(s: Saved, a: u32) -> Reach
     map::reach(s, mapped)
 }
 
-// The row unsound, which a PCSR0 write with reset skips.
+// The row unsound, which a PCSR0 write with reset skips: soundness is worked out for it too, and does not count (docs/DECISIONS.md).
 fn sound_or_reset(
     s: Saved,
     send: &[u32],

@@ -67,6 +67,7 @@ pub(crate) fn stepped(r: Mapped, s: Saved) -> Saved
     ensures { λ t. ⌜ t ≡ rule.stepped r s ⌝ }
 {
     let mut saved = s;
+    // The first % is for any pointer's sake: nothing is asked of the saved state here, and no sum may wrap.
     match r {
         Mapped::Single(_) => s,
         Mapped::SendWord => s,

@@ -61,15 +61,17 @@ fn receive_part(i: u32) -> ReceivePart
     ReceivePart::Token(ListIndex((i - 1024) / 2))
 }
 
-// A descriptor's word that is not read-only, by the descriptor's words.
+// A descriptor's word that is not read-only, by the descriptor's words; control1 is word 5.
 fn judge_open_word(words: Descriptor, bytes: usize, d: DescriptorIndex, k: u32, v: u32) -> Writing
     requires { ⌜ descriptorWordFixed k ≡ false ⌝ }
     ensures { λ r. ⌜ ((send : List ℕ) → words ≡ descriptorAt send d → r ≡ judgeSendWord send bytes (SendPart.OfDescriptor d k) v) ⌝ }
 {
     let go = v / 0x1000_0000 % 2 == 1;
+    // "Writes to an active descriptor answer active, except control1 with go 0"
     if !(!is_active(words) | ((k == 5) & !go)) {
         return Writing::No(Refusal::Active);
     }
+    // "A control1 write with go 1 needs" the go rule.
     if !(!((k == 5) & go) | go_rule(words, v, v % 0x100_0000, bytes)) {
         return Writing::No(Refusal::BadValue);
     }

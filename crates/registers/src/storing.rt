@@ -78,6 +78,7 @@ fn started(v: u32, d: Descriptor) -> Descriptor
     let mut words = d;
     words.bytestogo = v % 0x100_0000;
     words.control1 = v;
+    // stalled and done, bits 30 and 29, go to 0.
     words.status2 = d.status2 / 0x8000_0000 * 0x8000_0000 + d.status2 % 0x2000_0000;
     words
 }

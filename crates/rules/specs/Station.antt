@@ -60,7 +60,7 @@ lineOf kind reply value interrupts =
 
 -- ---- the program
 
--- "Memories are the largest, zero".
+-- "Memories are the largest, zero". Of the saved state the reset leaves nothing.
 unfoldable pub zeroMachine : Machine
 zeroMachine = machine (resetSaved 0) (replicate sendSize 0) (replicate receiveSize 0) (replicate dataMost 0) (replicate noticesMost 0)
 

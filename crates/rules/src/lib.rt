@@ -233,7 +233,7 @@ pub enum ReceiveStore {
     ListToken(ListIndex),
 }
 
-// What a write does.
+// What a write does: a reset, a number of the saved state set, a block handed to NBQR, a word of Send RAM or of Receive RAM stored.
 pub enum Writing {
     No(Refusal),
     Reset,

@@ -73,6 +73,7 @@ fn act_waits(i: DescriptorIndex, s: Saved, send: &mut [u32]) -> Answer
     requires { ⌜ Markable i (now send) ⌝ }
     ensures { λ r. ⌜ Marks i s (now (send .entry)) r (now (send .exit)) ⌝ }
 {
+    // status2, word 6 of the descriptor.
     let at = 16 * i.0 as usize + 6;
     send[at] = moving::with_stalled(send[at]);
     refuse(s, Refusal::Fabric)

@@ -1,4 +1,4 @@
-// The 64 slots, 16 words each from word 0 of Receive RAM on: their words are read and stored by these two functions alone.
+// The 64 slots, 16 words each from word 0 of Receive RAM on: these two alone read and store words 0 to 11 (a reset clears the whole RAM).
 use crate::metadata_at;
 use rules::Slot;
 use rules::SlotIndex;
