@@ -2,7 +2,7 @@
 use mathlib.Core.Path.{_≡_, refl, sym, ap, _∙_}
 use mathlib.Core.Logic.{_⊎_}
 use mathlib.Core.Bool.{Bool, true, false}
-use mathlib.Core.List.{List, _∷_}
+use mathlib.Core.List.{List}
 use Prim.Native.Nat.{ℕ, _+_, _<_}
 use native.Mathlib.Nat.{zero-add, add-zero}
 use native.Mathlib.Omega.{arith}
@@ -19,7 +19,7 @@ use Rattle.rules.specs.declared.Slot.{Slot}
 use Rattle.rules.specs.declared.SlotIndex.{SlotIndex}
 use Rattle.rules.proofs.Receipt.{the-type}
 use Rattle.rules.specs.Words.{offset}
-use Rattle.rules.specs.Memory.{slotsMost, slotFirst, metadataWords}
+use Rattle.rules.specs.Memory.{slotsMost, slotFirst}
 use Rattle.rules.specs.Packet.{payloadOf, packetOf}
 use Rattle.rules.specs.Saved.{withCounts, counted}
 use Rattle.rules.specs.Slots.{slotAt, storeSlot}
@@ -28,6 +28,7 @@ use Rattle.rules.specs.Notices.{postAll, pushAqr}
 use Rattle.rules.specs.Receipt.{slotAfter, receiptPosting, needsAqr}
 use Rattle.rules.specs.Receipt.{aqrEntry, slotStored, payloadStored, aqrStored, countedBy, receivedOnBoard, received}
 use Rattle.rules.specs.Calls.{receiptReply, actReceive}
+use Rattle.tables.proofs.Rows.{slotWords}
 use Rattle.packet.specs.Packet.{Landing}
 use Rattle.notices.specs.declared.Step.{Step}
 use Rattle.notices.specs.Steps.{Pushable, Does, Posts, PostableAll}
@@ -72,10 +73,6 @@ slot-stored receive receive₂ p r i v w e same left stored = rw (e, ← same) (
 pub slot-kept : (receive : List ℕ) (p : Packet) (r : Receipt) → (tagOf the-type r ≡ 0) ⊎ (tagOf the-type r ≡ 1) → receive ≡ slotStored p r receive
 unfolding slotStored
 slot-kept receive p r = unless-lands (λ r. receive ≡ slotStored p r receive) (λ status. refl) (λ i. refl) r
-
--- The words that are stored.
-abbrev slotWords : Slot → List ℕ
-slotWords v = v .base ∷ v .size ∷ v .noteandflags ∷ v .bytestogo ∷ v .msgsize ∷ v .msgoffset ∷ v .acknote ∷ v .metaword ∷ metadataWords (v .metadata)
 
 -- Receive RAM has its size.
 slot-length : (receive : List ℕ) (p : Packet) (r : Receipt) → length (slotStored p r receive) ≡ length receive

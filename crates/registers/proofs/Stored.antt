@@ -18,18 +18,14 @@ use Rattle.rules.specs.declared.Saved.{Saved}
 use Rattle.rules.specs.declared.SendStore.{SendStore}
 use Rattle.rules.specs.declared.Slot.{Slot}
 use Rattle.rules.specs.declared.SlotIndex.{SlotIndex}
-use Rattle.rules.specs.Memory.{slotFirst, slotWord, headWord, placeWord, noMetadata, metadataWords}
+use Rattle.rules.specs.Memory.{slotFirst, slotWord, headWord, placeWord, noMetadata}
 use Rattle.rules.specs.Slots.{slotAt, storeSlot}
 use Rattle.rules.specs.Sending.{descriptorAt, storeDescriptor, started}
 use Rattle.rules.specs.Writes.{numberSet, sendStored, receiveStored}
+use Rattle.tables.proofs.Rows.{slotWords}
 use Rattle.registers.specs.Writing.{InSend, InReceive, PlainWord, HasWord, HasWord2}
 
 -- ---- slots
-
--- A slot's twelve words.
-abbrev slotWords : Slot → List ℕ
-slotWords x =
-    x .base ∷ x .size ∷ x .noteandflags ∷ x .bytestogo ∷ x .msgsize ∷ x .msgoffset ∷ x .acknote ∷ x .metaword ∷ metadataWords (x .metadata)
 
 -- A slot that is stored where it was read changes nothing.
 store-read : (receive : List ℕ) (i : SlotIndex) → storeSlot receive i (slotAt receive i) ≡ receive

@@ -1,0 +1,2 @@
+-- What the proofs above share of slots. Assumes nothing.
+pub mod Rows
