@@ -1,22 +1,17 @@
--- Laws of a test at each number below n: how a loop goes on, how it stops, and what it says at a number. Assumes nothing.
+-- Laws of a test at each number below n: how a loop goes on, and what it says at a number. Assumes nothing.
 use Prim.Native.Nat.{ℕ, zero, suc, _+_, _<_}
 use native.Mathlib.Numerals.{add-one}
 use native.Mathlib.Decide.{decLt}
 use native.Mathlib.Omega.{arith}
-use mathlib.Core.Path.{_≡_, refl, ap₂}
-use mathlib.Core.Bool.{Bool, true, false, _&&_}
+use mathlib.Core.Path.{_≡_, refl}
+use mathlib.Core.Bool.{Bool, true, _&&_}
 use Rattle.ground.specs.Choice.{allBelow}
-use Rattle.ground.proofs.Tests.{and-left, and-right, and-both, and-no-left, and-no-right}
+use Rattle.ground.proofs.Tests.{and-left, and-right, and-both}
 
 -- The test holds below 0.
 pub all-none : (p : ℕ → Bool) → allBelow 0 p ≡ true
 unfolding allBelow
 all-none p = refl
-
--- It holds below i and at i: it holds below i + 1.
-pub all-more : (p : ℕ → Bool) (i : ℕ) → allBelow i p ≡ true → p i ≡ true → allBelow (i + 1) p ≡ true
-unfolding allBelow
-all-more p i h e = rw (add-one, h, e)
 
 -- A turn of a loop that keeps whether the test held so far.
 pub all-turn : (p : ℕ → Bool) (i : ℕ) {ok t : Bool} → ok ≡ allBelow i p → t ≡ p i → (ok && t) ≡ allBelow (i + 1) p
@@ -35,25 +30,8 @@ all-at p zero i lt h = absurd (omega arith)
 all-at p (suc n) i lt h =
     last p n i true lt (λ l. all-at p n i l (and-left (allBelow n p) (p n) h)) (and-right (allBelow n p) (p n) h) (decLt i n)
 
--- A failure at i is one below n + 1.
-fails : (p : ℕ → Bool) (n i : ℕ) → i < suc n → (i < n → allBelow n p ≡ false) → p i ≡ false → Dec (i < n) → (allBelow n p && p n) ≡ false
-fails p n i lt f e (yes l) = and-no-left _ _ (f l)
-fails p n i lt f e (no k) = let q : i ≡ n = omega arith in and-no-right (allBelow n p) (p n) (rw (← q) e)
-
--- It fails at a number below n: it does not hold below n.
-pub all-not : (p : ℕ → Bool) (n i : ℕ) → i < n → p i ≡ false → allBelow n p ≡ false
-unfolding allBelow
-all-not p zero i lt e = absurd (omega arith)
-all-not p (suc n) i lt e = fails p n i lt (λ l. all-not p n i l e) e (decLt i n)
-
 -- It holds at each number below n: it holds below n.
 pub all-each : (p : ℕ → Bool) (n : ℕ) → ((i : ℕ) → i < n → p i ≡ true) → allBelow n p ≡ true
 unfolding allBelow
 all-each p zero f = refl
 all-each p (suc n) f = and-both (all-each p n (λ i l. f i (omega arith))) (f n (omega arith))
-
--- Two tests that agree at each number below n agree below n.
-pub all-same : (p q : ℕ → Bool) (n : ℕ) → ((i : ℕ) → i < n → p i ≡ q i) → allBelow n p ≡ allBelow n q
-unfolding allBelow
-all-same p q zero f = refl
-all-same p q (suc n) f = ap₂ _&&_ (all-same p q n (λ i l. f i (omega arith))) (f n (omega arith))

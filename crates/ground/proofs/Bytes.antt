@@ -4,11 +4,11 @@ use mathlib.Core.List.{List, [], _∷_, _++_}
 use Prim.Native.Nat.{ℕ, zero, suc, _+_, _*_, _/_, _%_, _^_, _<_, _≤_}
 use native.Mathlib.Numerals.{add-one, add-two, add-three, add-four}
 use native.Mathlib.Omega.{arith}
-use lib.ListN.{length, getD, set, take, drop}
-use lib.Seq.{sets, set-getD, drop-cons, drop-length, getD-append-add, getD-append-seam, getD-drop}
+use lib.ListN.{length, getD, take, drop}
+use lib.Seq.{sets, drop-cons, drop-length, getD-append-add, getD-append-seam}
 use Rattle.ground.specs.Bytes.{join, wordAt, bytesOf, toBytes}
 use Rattle.ground.specs.Lists.{part}
-use Rattle.ground.proofs.Lists.{getD-sets-before, getD-sets-after, getD-sets-in, getD-part, part-add, sets-append}
+use Rattle.ground.proofs.Lists.{part-add, sets-append}
 
 -- Every element is a byte.
 abbrev pub Bytes : List ℕ → Type 0
@@ -88,96 +88,10 @@ word-bytes p w r =
     let s : List ℕ = bytesOf w ++ r in
     rw (getD-append-seam p, getD-append-add p s 1 0, getD-append-add p s 2 0, getD-append-add p s 3 0) (cut-join w)
 
--- The words of a part are those of the whole.
-pub word-part : (a n : ℕ) (s : List ℕ) (i : ℕ) → i + 4 ≤ n → wordAt (part a n s) i ≡ wordAt s (a + i)
-word-part a n s i h =
-    let e1 : a + (i + 1) ≡ a + i + 1 = omega arith in
-    let e2 : a + (i + 2) ≡ a + i + 2 = omega arith in
-    let e3 : a + (i + 3) ≡ a + i + 3 = omega arith in
-    rw (
-      getD-part a n s i 0 (omega arith),
-      getD-part a n s (i + 1) 0 (omega arith),
-      getD-part a n s (i + 2) 0 (omega arith),
-      getD-part a n s (i + 3) 0 (omega arith),
-      e1,
-      e2,
-      e3,
-    )
-
--- The word that is stored at a place.
-pub word-sets : (s : List ℕ) (i w : ℕ) → i + 4 ≤ length s → wordAt (sets s i (bytesOf w)) i ≡ w
-word-sets s i w h =
-    let b : List ℕ = bytesOf w in
-    let e : i + 0 ≡ i = omega arith in
-    let z : getD (sets s i b) i 0 ≡ w / 2 ^ 24 = rw e at (getD-sets-in s i b 0 0 (omega arith) h) in
-    rw (
-      z,
-      getD-sets-in s i b 1 0 (omega arith) h,
-      getD-sets-in s i b 2 0 (omega arith) h,
-      getD-sets-in s i b 3 0 (omega arith) h,
-    )
-    (cut-join w)
-
--- A word before a run of stores stays.
-pub word-before : (s : List ℕ) (i : ℕ) (vs : List ℕ) (j : ℕ) → j + 4 ≤ i → wordAt (sets s i vs) j ≡ wordAt s j
-word-before s i vs j h =
-    rw (
-      getD-sets-before s i vs j 0 (omega arith),
-      getD-sets-before s i vs (j + 1) 0 (omega arith),
-      getD-sets-before s i vs (j + 2) 0 (omega arith),
-      getD-sets-before s i vs (j + 3) 0 (omega arith),
-    )
-
--- A word after a run of stores stays.
-pub word-after : (s : List ℕ) (i : ℕ) (vs : List ℕ) (j : ℕ) → i + length vs ≤ j → wordAt (sets s i vs) j ≡ wordAt s j
-word-after s i vs j h =
-    rw (
-      getD-sets-after s i vs j 0 (omega arith),
-      getD-sets-after s i vs (j + 1) 0 (omega arith),
-      getD-sets-after s i vs (j + 2) 0 (omega arith),
-      getD-sets-after s i vs (j + 3) 0 (omega arith),
-    )
-
--- Storing the word that is there changes nothing.
-pub sets-word : (s : List ℕ) (i : ℕ) → Bytes s → sets s i (bytesOf (wordAt s i)) ≡ s
-sets-word s i h =
-    ap (sets s i) (bytes-word s i h)
-    ∙ rw (add-one, add-two, add-three, set-getD s i 0, set-getD s (suc i) 0, set-getD s (suc (suc i)) 0, set-getD s (suc (suc (suc i))) 0)
-
--- A word of the second of two lists.
-pub word-append : (p s : List ℕ) (i : ℕ) → wordAt (p ++ s) (length p + i) ≡ wordAt s i
-word-append p s i =
-    let n : ℕ = length p in
-    let e1 : n + i + 1 ≡ n + (i + 1) = omega arith in
-    let e2 : n + i + 2 ≡ n + (i + 2) = omega arith in
-    let e3 : n + i + 3 ≡ n + (i + 3) = omega arith in
-    rw (
-      e1,
-      e2,
-      e3,
-      getD-append-add p s i 0,
-      getD-append-add p s (i + 1) 0,
-      getD-append-add p s (i + 2) 0,
-      getD-append-add p s (i + 3) 0,
-    )
-
--- The words of the bytes of a row of words are the words.
-pub row-word : (ws : List ℕ) (i : ℕ) → wordAt (toBytes ws) (i * 4) ≡ getD ws i 0
-row-word [] i = refl
-row-word (w ∷ ws) zero = cut-join w
-row-word (w ∷ ws) (suc i) =
-    let e : suc i * 4 ≡ 4 + i * 4 = omega arith in
-    ap (wordAt (toBytes (w ∷ ws))) e ∙ word-append (bytesOf w) (toBytes ws) (i * 4) ∙ row-word ws i
-
 -- Each word of a row has four bytes.
 pub row-length : (ws : List ℕ) → length (toBytes ws) ≡ length ws * 4
 row-length [] = refl
 row-length (w ∷ ws) = omega (arith, row-length ws)
-
--- The bytes of two rows are those of the first, then those of the second.
-pub row-append : (a b : List ℕ) → toBytes (a ++ b) ≡ toBytes a ++ toBytes b
-row-append [] b = refl
-row-append (w ∷ a) b = ap (λ (l : List ℕ). bytesOf w ++ l) (row-append a b)
 
 -- A turn of a run of stores of words: one of the rest is stored.
 pub words-more : (l ws : List ℕ) (at i : ℕ) {t : List ℕ} → i < length ws → sets l (at + i * 4) (toBytes (drop i ws)) ≡ t
@@ -211,27 +125,3 @@ bytes-append (x ∷ a) b ha hb (suc k) = bytes-append a b (λ n. ha (suc n)) hb 
 pub bytes-row : (ws : List ℕ) → ((k : ℕ) → getD ws k 0 < 2 ^ 32) → Bytes (toBytes ws)
 bytes-row [] h k = omega arith
 bytes-row (w ∷ ws) h k = bytes-append (bytesOf w) (toBytes ws) (bytes-of w (h zero)) (bytes-row ws (λ n. h (suc n))) k
-
--- The start of a list of bytes is one.
-pub bytes-take : (n : ℕ) (s : List ℕ) → Bytes s → Bytes (take n s)
-bytes-take zero s h k = omega arith
-bytes-take (suc n) [] h k = omega arith
-bytes-take (suc n) (x ∷ s) h zero = h zero
-bytes-take (suc n) (x ∷ s) h (suc k) = bytes-take n s (λ i. h (suc i)) k
-
--- The rest of a list of bytes is one.
-pub bytes-drop : (n : ℕ) (s : List ℕ) → Bytes s → Bytes (drop n s)
-bytes-drop n s h k = rw (getD-drop n s k 0) (h (n + k))
-
--- A list of bytes with a byte stored in it is one.
-pub bytes-set : (s : List ℕ) (i v : ℕ) → v < 256 → Bytes s → Bytes (set s i v)
-bytes-set [] i v l h k = omega arith
-bytes-set (x ∷ s) zero v l h zero = l
-bytes-set (x ∷ s) zero v l h (suc k) = h (suc k)
-bytes-set (x ∷ s) (suc i) v l h zero = h zero
-bytes-set (x ∷ s) (suc i) v l h (suc k) = bytes-set s i v l (λ n. h (suc n)) k
-
--- A list of bytes with bytes stored in it is one.
-pub bytes-sets : (s : List ℕ) (i : ℕ) (vs : List ℕ) → Bytes vs → Bytes s → Bytes (sets s i vs)
-bytes-sets s i [] b h = h
-bytes-sets s i (v ∷ vs) b h = bytes-sets (set s i v) (suc i) vs (λ n. b (suc n)) (bytes-set s i v (b zero) h)

@@ -1,6 +1,6 @@
 -- Laws of choices by a test and of tests that have to hold. Assumes nothing.
 use mathlib.Core.Path.{_≡_, refl, sym, ap, _∙_}
-use mathlib.Core.Bool.{Bool, true, false, _&&_}
+use mathlib.Core.Bool.{Bool, true, false}
 use borrow.Author.Tests.{lt-ltb, le-ltb, le-leb, lt-leb, eq-eqb, ne-eqb}
 use Rattle.ground.specs.Choice.{pick, need}
 use Rattle.ground.proofs.Tests.{flag-no, flag-yes, not-yes, not-no}
@@ -35,12 +35,6 @@ unfolding pick
 pick-by P true f g = f refl
 pick-by P false f g = g refl
 
--- A function of the choice is the choice of its results.
-pub pick-ap : {A B : Type 0} (f : A → B) (b : Bool) (x y : A) → f (pick b x y) ≡ pick b (f x) (f y)
-unfolding pick
-pick-ap f true x y = refl
-pick-ap f false x y = refl
-
 -- Where the test that has to hold does, the rest decides.
 pub need-yes : {A : Type 0} {b : Bool} (other rest : A) → b ≡ true → need b other rest ≡ rest
 unfolding need
@@ -70,12 +64,6 @@ pub need-holds : {A : Type 0} (P : A → Type 0) (b : Bool) {other rest : A} →
 unfolding need
 need-holds P true f g = g refl
 need-holds P false f g = f refl
-
--- Two tests in a row with one outcome of failure are one.
-pub need-both : {A : Type 0} (a b : Bool) (other rest : A) → need a other (need b other rest) ≡ need (a && b) other rest
-unfolding need
-need-both true b other rest = refl
-need-both false b other rest = refl
 
 -- A function of the outcome is the outcome of its results.
 pub need-ap : {A B : Type 0} (f : A → B) (b : Bool) (other rest : A) → f (need b other rest) ≡ need b (f other) (f rest)

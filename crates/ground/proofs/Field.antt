@@ -3,11 +3,11 @@ use mathlib.Core.Path.{_≡_, refl, sym, ap, ap₂, _∙_}
 use mathlib.Core.Bool.{Bool, true, false}
 use mathlib.Core.List.{List, [], _∷_}
 use Prim.Native.Nat.{ℕ, zero, suc, _+_, _-_, _*_, _/_, _%_, _^_, _<_, _≤_}
-use native.Mathlib.Nat.{mod-lt, mod-eq-of-lt, mul-add-mod-self-right, div-one, div-eq-of-lt, zero-mul, zero-add}
+use native.Mathlib.Nat.{mod-lt, mod-eq-of-lt, mul-add-mod-self-right, div-one, zero-mul, zero-add}
 use native.Mathlib.Omega.{arith}
 use lib.Arith.{digits-lt}
 use lib.Dec.{eqb}
-use lib.Pow.{pow-pos, pow-add, high, low, split, mod-pow-add, mod-mod-pow, shr-shr, shr-lt}
+use lib.Pow.{pow-pos, pow-add, high, low, split, mod-pow-add, mod-mod-pow, shr-shr}
 use lib.Pow.{field as digits}
 use Rattle.ground.specs.Field.{field, flag, bit, without, withField, width, pack, unpack}
 
@@ -56,21 +56,9 @@ pack-unpack-mod (j ∷ js) w = rw (field-eq (width js) j w, pack-unpack-mod js w
 pub pack-unpack : (js : List ℕ) (w : ℕ) → w < 2 ^ width js → pack js (unpack js w) ≡ w
 pack-unpack js w h = pack-unpack-mod js w ∙ mod-eq-of-lt h
 
--- What is unpacked fits its fields.
-pub unpack-fit : (js : List ℕ) (w : ℕ) → Fit js (unpack js w)
-unpack-fit [] w = none
-unpack-fit (j ∷ js) w = more (field-lt (width js) j w) (unpack-fit js w)
-
 -- A field is the upper part of the bits up to its end.
 low-digits : (k j w : ℕ) → field k j w ≡ w % 2 ^ (j + k) / 2 ^ k
 low-digits k j w = field-eq k j w ∙ sym (digits w j k)
-
--- A field that lies in the value above.
-pub field-above : (k j t v : ℕ) {p : ℕ} → p < 2 ^ t → field (t + k) j (v * 2 ^ t + p) ≡ field k j v
-field-above k j t v {p} h =
-    field-eq (t + k) j (v * 2 ^ t + p)
-    ∙ ap (λ (x : ℕ). x % 2 ^ j) (sym (shr-shr (v * 2 ^ t + p) t k) ∙ ap (λ (x : ℕ). x / 2 ^ k) (high v t h))
-    ∙ sym (field-eq k j v)
 
 -- A field that lies in what is below.
 pub field-below : (k j d v p : ℕ) → field k j (v * 2 ^ (d + (j + k)) + p) ≡ field k j p
@@ -91,20 +79,6 @@ field-field k j d l w =
     ∙ digits y j k
     ∙ ap (λ (x : ℕ). x % 2 ^ j) (shr-shr w l k)
     ∙ sym (field-eq (l + k) j w)
-
--- A field is its upper bits above its lower ones.
-pub field-split : (k i j w : ℕ) → field k (i + j) w ≡ field (k + j) i w * 2 ^ j + field k j w
-field-split k i j w =
-    field-eq k (i + j) w ∙ mod-pow-add (w / 2 ^ k) i j
-    ∙ ap₂ (λ (x y : ℕ). x * 2 ^ j + y) (ap (λ (x : ℕ). x % 2 ^ i) (shr-shr w k j) ∙ sym (field-eq (k + j) i w)) (sym (field-eq k j w))
-
--- A word that fits j bits is its own lowest field.
-pub field-all : (j w : ℕ) → w < 2 ^ j → field 0 j w ≡ w
-field-all j w h = mod-eq-of-lt h
-
--- A word that ends below a field has 0 there.
-pub field-none : (k j w : ℕ) → w < 2 ^ k → field k j w ≡ 0
-field-none k j w h = field-eq k j w ∙ ap (λ (x : ℕ). x % 2 ^ j) (div-eq-of-lt h) ∙ mod-eq-of-lt (pow-pos j)
 
 -- Clearing a field is setting it to 0.
 pub with-none : (k j w : ℕ) → withField k j 0 w ≡ without k j w
@@ -163,26 +137,6 @@ with-below k j i l v w h =
     λ y. ap (field i l) (sym (split y k)) ∙ ap (λ (n : ℕ). field i l (y / 2 ^ k * 2 ^ n + y % 2 ^ k)) e ∙ field-below i l d (y / 2 ^ k) (y % 2 ^ k) in
     cut (withField k j v w) ∙ ap (field i l) (with-mod k j v w) ∙ sym (cut w)
 
--- A word with a field set stays below a bound past the field.
-pub with-lt : (k j n v w : ℕ) → k + j ≤ n → v < 2 ^ j → w < 2 ^ n → withField k j v w < 2 ^ n
-with-lt k j n v w h f l =
-    let d : ℕ = n - (k + j) in
-    let e : n ≡ d + (k + j) = omega arith in
-    let b : w < 2 ^ (d + (k + j)) = rw e at l in
-    rw (with-cut k j v w, e, pow-add 2 d (k + j)) (digits-lt (shr-lt d (k + j) b) (low-lt k j v w f))
-
--- Setting a field to what it has changes nothing.
-pub with-field : (k j w : ℕ) → withField k j (field k j w) w ≡ w
-with-field k j w =
-    with-eq k j (field k j w) w
-    ∙ ap₂ (λ (x y : ℕ). (x * 2 ^ j + y) * 2 ^ k + w % 2 ^ k) (sym (shr-shr w k j)) (field-eq k j w)
-    ∙ ap (λ (x : ℕ). x * 2 ^ k + w % 2 ^ k) (split (w / 2 ^ k) j)
-    ∙ split w k
-
--- Of two values set in one field the last stays.
-pub with-with : (k j u v w : ℕ) → u < 2 ^ j → withField k j v (withField k j u w) ≡ withField k j v w
-with-with k j u v w h = ap₂ (λ (x y : ℕ). x * 2 ^ (k + j) + y + v * 2 ^ k) (with-div k j u w h) (with-mod k j u w)
-
 -- The field that is cleared is 0.
 pub without-same : (k j w : ℕ) → field k j (without k j w) ≡ 0
 without-same k j w = ap (field k j) (sym (with-none k j w)) ∙ with-same k j 0 w (pow-pos j)
@@ -194,10 +148,6 @@ without-above k j i l w h = ap (field i l) (sym (with-none k j w)) ∙ with-abov
 -- A field up to the start of the one that is cleared stays.
 pub without-below : (k j i l w : ℕ) → i + l ≤ k → field i l (without k j w) ≡ field i l w
 without-below k j i l w h = ap (field i l) (sym (with-none k j w)) ∙ with-below k j i l 0 w h
-
--- A word with a field cleared stays below a bound past the field.
-pub without-lt : (k j n w : ℕ) → k + j ≤ n → w < 2 ^ n → without k j w < 2 ^ n
-without-lt k j n w h l = rw (← with-none k j w) (with-lt k j n 0 w h (pow-pos j) l)
 
 -- A bit fits one bit.
 pub bit-lt : (b : Bool) → bit b < 2
@@ -212,10 +162,6 @@ bit-test false = refl
 -- The flag of a bit that is set by a test is the test.
 pub flag-with : (k w : ℕ) (b : Bool) → flag k (withField k 1 (bit b) w) ≡ b
 flag-with k w b = ap (λ (x : ℕ). eqb x 1) (with-same k 1 (bit b) w (bit-lt b)) ∙ bit-test b
-
--- The flag of a bit that is cleared is down.
-pub flag-without : (k w : ℕ) → flag k (without k 1 w) ≡ false
-flag-without k w = ap (λ (x : ℕ). eqb x 1) (without-same k 1 w)
 
 -- A number below 2 is the bit of the test that it is 1.
 test-bit : (n : ℕ) → n < 2 → bit (eqb n 1) ≡ n

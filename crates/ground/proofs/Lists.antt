@@ -1,13 +1,13 @@
 -- Laws of runs of stores and of parts of lists that are lent, written over and put back. Assumes nothing.
 use mathlib.Core.Path.{_≡_, refl, sym, ap, _∙_}
-use mathlib.Core.List.{List, [], _∷_, _++_, append-assoc, append-nil}
+use mathlib.Core.List.{List, [], _∷_, _++_, append-assoc}
 use Prim.Native.Nat.{ℕ, zero, suc, _+_, _-_, _<_, _≤_}
 use native.Mathlib.Nat.{add-zero, add-suc, suc-add}
 use native.Mathlib.Numerals.{add-one, add-two, add-three}
 use native.Mathlib.Omega.{arith}
-use lib.ListN.{length, getD, set, take, drop, length-append, length-drop, length-take, length-set, take-append-drop}
+use lib.ListN.{length, getD, set, take, drop, length-append, length-drop, length-set, take-append-drop}
 use lib.Seq.{sets, sets-eq, getD-set-same, getD-set-other, getD-take, getD-drop, drop-cons, drop-drop, drop-length, drop-append-le, drop-append-seam}
-use lib.Seq.{drop-at, take-suc, take-suc-set, take-all, take-take, take-add, take-append-le, take-append-seam, length-take-le, set-comm, set-set}
+use lib.Seq.{drop-at, take-add, take-append-le, take-append-seam, length-take-le, set-comm, set-set}
 use Rattle.ground.specs.Lists.{part, over, putAt}
 
 module _ {A : Type 0} where
@@ -110,81 +110,15 @@ module _ {A : Type 0} where
   pub part-holds : (P : A → Type 0) (a n : ℕ) (l : List A) (d : A) → P d → ((i : ℕ) → P (getD l i d)) → (i : ℕ) → P (getD (part a n l) i d)
   part-holds P a n l d p h = take-holds P n (drop a l) d p (λ i. rw (getD-drop a l i d) (h (a + i)))
 
-  -- What is written where p ends.
-  pub over-put : (p ys d : List A) → putAt (length p) ys (over p d) ≡ over (p ++ ys) d
-  unfolding over putAt
-  over-put p ys d =
-      rw (take-append-seam, drop-append-seam, drop-drop, length-append) (sym (append-assoc p ys (drop (length p + length ys) d)))
-
-  -- The part that was written last.
-  pub over-part : (p ys d : List A) → part (length p) (length ys) (over (p ++ ys) d) ≡ ys
-  unfolding over
-  over-part p ys d = rw (append-assoc, drop-append-seam, take-append-seam)
-
-  -- Nothing written over a list leaves it.
-  pub over-none : (d : List A) → over [] d ≡ d
-  unfolding over
-  over-none d = refl
-
-  -- Nothing written at a place leaves the list.
-  pub put-none : (a : ℕ) (d : List A) → putAt a [] d ≡ d
-  unfolding putAt
-  put-none a d = take-append-drop a d
-
   -- A list written over keeps its length.
   pub length-over : (p d : List A) → length p ≤ length d → length (over p d) ≡ length d
   unfolding over
   length-over p d h = simp (length-append, length-drop) (omega arith)
 
-  -- A list written at a place keeps its length.
-  pub length-put : (a : ℕ) (ys d : List A) → a + length ys ≤ length d → length (putAt a ys d) ≡ length d
-  unfolding putAt
-  length-put a ys d h = simp (length-append, length-drop, length-take) (omega arith)
-
-  -- A list written over all of another replaces it.
-  pub over-all : (p d : List A) → length d ≡ length p → over p d ≡ p
-  unfolding over
-  over-all p d h =
-      let e : drop (length p) d ≡ [] = rw (← h) (drop-length d) in
-      ap (λ (l : List A). p ++ l) e ∙ append-nil p
-
   -- What is written at place 0 is written over the start.
   pub put-first : (p d : List A) → putAt 0 p d ≡ over p d
   unfolding putAt over
   put-first p d = refl
-
-  -- The part from a to a + n that was lent comes back as ys.
-  pub home : (a n : ℕ) (x ys d : List A) → x ≡ ys → length ys ≡ n → take a d ++ (x ++ drop (a + n - a) (drop a d)) ≡ putAt a ys d
-  unfolding putAt
-  home a n x ys d e l =
-      let k : a + n - a ≡ length ys = omega arith in
-      rw (e, k)
-
-  -- The n elements from b on of one list written over those from a on of another.
-  pub put-part : (a b n : ℕ) (s d : List A) → b + n ≤ length s
-      → putAt a (take (b + n - b) (drop b s)) d ≡ take a d ++ (part b n s ++ drop (a + n) d)
-  unfolding putAt
-  put-part a b n s d h =
-      let k : b + n - b ≡ n = omega arith in
-      rw (k, length-part b n s h, drop-drop)
-
-  -- What is written just before what was written.
-  pub put-before : (a b : ℕ) (ys zs d : List A) → a + length ys ≡ b → b ≤ length d → putAt a ys (putAt b zs d) ≡ putAt a (ys ++ zs) d
-  unfolding putAt
-  put-before a b ys zs d e h =
-      let r : List A = drop (length zs) (drop b d) in
-      let t : take a (take b d ++ (zs ++ r)) ≡ take a d =
-      take-append-le a (take b d) (zs ++ r) (simp length-take (omega arith)) ∙ take-take a b d (omega arith) in
-      let u : drop (length ys) (drop a (take b d ++ (zs ++ r))) ≡ zs ++ r =
-      drop-drop (length ys) a (take b d ++ (zs ++ r))
-      ∙ ap (λ (k : ℕ). drop k (take b d ++ (zs ++ r))) e
-      ∙ drop-at (take b d) (zs ++ r) b (length-take-le b d h) in
-      let k : b + length zs ≡ a + length (ys ++ zs) = omega (arith, length-append ys zs) in
-      let v : r ≡ drop (length (ys ++ zs)) (drop a d) =
-      drop-drop (length zs) b d ∙ ap (λ (x : ℕ). drop x d) k ∙ sym (drop-drop (length (ys ++ zs)) a d) in
-      (λ i. t i ++ (ys ++ u i))
-      ∙ ap (λ (x : List A). take a d ++ x) (sym (append-assoc ys zs r))
-      ∙ ap (λ (x : List A). take a d ++ (ys ++ zs ++ x)) v
 
   -- The part that was written at a place.
   pub part-put : (a : ℕ) (ys d : List A) → a ≤ length d → part a (length ys) (putAt a ys d) ≡ ys
@@ -232,14 +166,3 @@ module _ {A : Type 0} where
   -- A part before a run of stores stays.
   pub part-sets-before : (b n : ℕ) (l : List A) (i : ℕ) (vs : List A) → b + n ≤ i → i + length vs ≤ length l → part b n (sets l i vs) ≡ part b n l
   part-sets-before b n l i vs h k = ap (part b n) (sets-put l i vs k) ∙ part-put-before b n i vs l h (omega arith)
-
-  -- A turn of a copy.
-  pub copied : (to from : List A) (i : ℕ) (d : A) → i < length to → i < length from → take i to ≡ take i from
-      → take (i + 1) (set to i (getD from i d)) ≡ take (i + 1) from
-  copied to from i d h k e =
-      rw (add-one i)
-      (take-suc-set to i (getD from i d) h ∙ ap (λ (l : List A). l ++ (getD from i d ∷ [])) e ∙ sym (take-suc from i d k))
-
-  -- The end of a copy.
-  pub copied-all : (to from : List A) (i : ℕ) → length to ≡ length from → length from ≤ i → take i to ≡ take i from → to ≡ from
-  copied-all to from i h k e = sym (take-all i to (omega arith)) ∙ e ∙ take-all i from k

@@ -4,10 +4,10 @@ use mathlib.Core.Bool.{Bool, true, false, cond}
 use Prim.Native.Nat.{ℕ, zero, suc, _+_, _-_, _^_, _<_, _≤_}
 use native.Mathlib.Nat.{zero-add}
 use native.Mathlib.Omega.{arith}
-use lib.IntN.{ℤ, pos, negsuc, natAbs, subℕ, negℤ, _+ℤ_, _-ℤ_, +ℤ-assoc, +ℤ-comm}
+use lib.IntN.{ℤ, pos, negsuc, natAbs, subℕ, _+ℤ_, _-ℤ_}
 use lib.Signed.{mag, ltZ}
 use lib.Dec.{T, ltb, eqb}
-use borrow.Author.Tests.{lt-ltb, le-ltb, eqb-true, ne-eqb, ltb-true}
+use borrow.Author.Tests.{lt-ltb, le-ltb, ne-eqb, ltb-true}
 use mir.Syntax.{w32}
 use mir.Val.{SFits, toZ, ofZ, sel}
 use mir.ValLaws.{toZ-ofZ, ofZ-toZ, toZ-fits}
@@ -54,12 +54,6 @@ signed-unsigned z f = signed-toZ (unsigned z) ∙ ap (toZ w32) (unsigned-ofZ z) 
 pub int-fits : (w : ℕ) → w < 2 ^ 32 → SFits w32 (signed w)
 int-fits w h = rw (signed-toZ w) (toZ-fits w32 w (record { fits = h }))
 
--- The word of a number fits 32 bits.
-pub unsigned-lt : (z : ℤ) → SFits w32 z → unsigned z < 2 ^ 32
-unfolding unsigned
-unsigned-lt (pos n) f = omega (arith, f .sfits)
-unsigned-lt (negsuc n) f = omega arith
-
 -- -1 less a number is its complement, from either side.
 pub flip-neg : (n : ℕ) → negsuc 0 -ℤ negsuc n ≡ pos n
 flip-neg n =
@@ -102,16 +96,6 @@ unfolding isZero
 zero-bits (pos n) f = refl
 zero-bits (negsuc n) f = ne-eqb (2 ^ 32 - suc n) 0 (omega (arith, f .sfits))
 
--- A number is 0 where its word is.
-pub zero-word : (z : ℤ) → SFits w32 z → eqb (unsigned z) 0 ≡ isZero z
-zero-word z f = ap (λ (n : ℕ). eqb n 0) (unsigned-ofZ z) ∙ zero-bits z f
-
--- The test for 0 holds of 0 alone.
-pub zero-is : (z : ℤ) → isZero z ≡ true → z ≡ pos 0
-unfolding isZero
-zero-is (pos n) e = ap pos (eqb-true n 0 e)
-zero-is (negsuc n) e = absurd (subst T (sym e) tt)
-
 -- The magnitude of a difference of two natural numbers.
 mag-subℕ : (a b : ℕ) → mag (subℕ a b) ≤ a + b
 mag-subℕ a b = go (ltb a b)
@@ -136,14 +120,3 @@ mag-add (negsuc a) n = omega (arith, mag-subℕ n (suc a))
 pub natAbs-mag : (z : ℤ) → natAbs z ≤ mag z + 1
 natAbs-mag (pos n) = omega arith
 natAbs-mag (negsuc n) = omega arith
-
--- Two numbers added in either order.
-pub swap : (x y z : ℤ) → x +ℤ y +ℤ z ≡ x +ℤ z +ℤ y
-swap x y z = +ℤ-assoc x y z ∙ ap (λ (t : ℤ). x +ℤ t) (+ℤ-comm y z) ∙ sym (+ℤ-assoc x z y)
-
--- Two packets in either order, each with a sum and a difference, leave the same number.
-pub order : (z a b c d : ℤ) → z +ℤ a -ℤ b +ℤ c -ℤ d ≡ z +ℤ c -ℤ d +ℤ a -ℤ b
-order z a b c d =
-    ap (λ (t : ℤ). t -ℤ d) (swap (z +ℤ a) (negℤ b) c ∙ ap (λ (t : ℤ). t -ℤ b) (swap z a c))
-    ∙ swap (z +ℤ c +ℤ a) (negℤ b) (negℤ d)
-    ∙ ap (λ (t : ℤ). t -ℤ b) (swap (z +ℤ c) a (negℤ d))
