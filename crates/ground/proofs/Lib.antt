@@ -5,6 +5,5 @@ pub mod All
 pub mod Field
 pub mod Lists
 pub mod Bytes
-pub mod Rows
 pub mod Signed
 pub mod Text
