@@ -4,23 +4,27 @@ import sys
 from collections import namedtuple
 from concurrent.futures import ProcessPoolExecutor
 
-# A change: `old` becomes `new` in a file of the crates.
-Change = namedtuple('Change', 'name file old new')
+# A change: `old` becomes `new` in a file of the crates. `refuser` is the crate that has to refuse it, '' where none is named.
+Change = namedtuple('Change', 'name file refuser old new')
 
 # What became of it: whether it was noticed, and where, or why not.
 Result = namedtuple('Result', 'noticed words')
 
 
-def read_changes(path):
-    """The changes of a text: a file's name, and indented below it `name: old => new`; # begins a comment."""
-    changes, file = [], None
+def read_changes(path, names):
+    """The changes of a text, or those named: a file's name, perhaps with `, refused by CRATE`, and indented below it `name: old => new`;
+    # begins a comment."""
+    changes, file, refuser = [], None, None
     for line in path.read_text(encoding='utf-8').splitlines():
         if line.startswith(' '):
             name, words = line.strip().split(': ', 1)
-            changes.append(Change(name, file, *words.split(' => ')))
+            changes.append(Change(name, file, refuser, *words.split(' => ')))
         elif line and not line.startswith('#'):
-            file = line
-    return changes
+            file, _, refuser = line.partition(', refused by ')
+    unknown = set(names) - {change.name for change in changes}
+    if unknown:
+        sys.exit(f'no such change: {", ".join(sorted(unknown))}')
+    return [change for change in changes if not names or change.name in names]
 
 
 def made(change, crates):
@@ -33,15 +37,10 @@ def made(change, crates):
     return None
 
 
-def try_all(path, names, tried):
-    """Tries the changes of a file, or those named, on every core; a line for each; 0 if all were noticed, else 1."""
-    changes = read_changes(path)
-    unknown = set(names) - {change.name for change in changes}
-    if unknown:
-        sys.exit(f'no such change: {", ".join(sorted(unknown))}')
-    changes = [change for change in changes if not names or change.name in names]
+def try_all(changes, tried):
+    """Tries the changes on every core; a line for each; 0 if all were noticed, else 1."""
     noticed = 0
-    print(f'{"change":28} {"noticed at":28} what was changed')
+    print(f'{"change":28} {"noticed at":28} what was changed', flush=True)
     with ProcessPoolExecutor(mp_context=multiprocessing.get_context('fork')) as pool:
         for change, result in zip(changes, pool.map(tried, changes)):
             noticed += result.noticed

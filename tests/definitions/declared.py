@@ -7,10 +7,10 @@ from library import FORMS, FUNCTIONS, NATIVE
 from reading import PRECEDENCE, NotKnown, Reader, items_of
 from trees import Apply, Name
 
-# The crates that are translated, and their modules that are not: lists of modules, the library's names handed on, theorems.
+# The crates that are translated, and their modules that are not: lists of modules, the library's names handed on.
 CRATES = {
     'ground': {'Lib'},
-    'rules': {'Lib', 'Types', 'Layouts', 'Bench', 'Sample'},
+    'rules': {'Lib', 'Types'},
 }
 
 

@@ -27,8 +27,5 @@ pub mod Sound
 pub mod Calls
 -- "The station program"
 pub mod Station
--- What is proved of the definitions: document 01's widths, its "Bench set", its sample.
-pub mod Layouts
-pub mod Bench
-pub mod Sample
+-- All of these opened at once, for what is proved by computing.
 pub mod Opened

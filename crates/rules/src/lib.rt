@@ -5,9 +5,6 @@ pub use queues::AQR_FROM;
 pub use queues::NBQR_FROM;
 pub use queues::NQR_FROM;
 pub use queues::Removal;
-ghost use Rattle.rules.specs.Layouts.{Layouts};
-ghost use Rattle.rules.specs.Bench.{Bench};
-ghost use Rattle.rules.specs.Sample.{Sample};
 
 // ---- the saved state
 
@@ -280,20 +277,3 @@ pub enum Verdict {
     Go,
     No(Refusal),
 }
-
-// ---- what is proved of the definitions, each the contract of a function that does nothing, so that it cannot go missing
-
-// Every word is read and made by the widths that document 01 gives.
-pub fn layouts()
-    ensures { λ r. ⌜ Layouts ⌝ }
-{}
-
-// Document 01's bench set.
-pub fn bench_set()
-    ensures { λ r. ⌜ Bench ⌝ }
-{}
-
-// The station's sample, and a torn record.
-pub fn station_sample()
-    ensures { λ r. ⌜ Sample ⌝ }
-{}

@@ -3,15 +3,16 @@ use mathlib.Core.Path.{_≡_}
 use Rattle.ground.specs.Bytes.{toBytes}
 use Rattle.ground.specs.Signed.{signed}
 use Rattle.ground.specs.Text.{ascii}
-use Rattle.rules.specs.Types.{ℕ, _+_, true, false, List, [], _∷_, length, getD, sets, take, replicate, ℤ, pos, negsuc, Saved}
+use Rattle.rules.specs.Types.{ℕ, _+_, true, false, List, [], _∷_, length, getD, sets, take, replicate, ℤ, pos, negsuc}
+use Rattle.rules.specs.declared.Saved.{Saved}
 use Rattle.rules.specs.Words.{isDirectIo, isControlPkt, notifies, goes, metaFlag, metaCount, msgSize}
 use Rattle.rules.specs.Memory.{Machine, machine, slot, slotFirst, list, headWord, nbqrFrom, noMetadata, block, blockFirst}
 use Rattle.rules.specs.Saved.{withSlots, withNbqr, withLastSender, resetSaved}
 use Rattle.rules.specs.Checksum.{checkOf}
 use Rattle.rules.specs.Packet.{form, payloadOf}
 use Rattle.rules.specs.Slots.{slotAt}
 use Rattle.rules.specs.Replies.{Outcome}
 use Rattle.rules.specs.Calls.{writes, reads, receives, sends, perform}
 
 -- ---- the sender, node 7 of incarnation 3, with 300 bytes
 

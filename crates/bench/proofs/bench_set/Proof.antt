@@ -1,8 +1,8 @@
--- `rules::bench_set` meets its contract: each row of the bench set computes. Assumes nothing.
+-- `bench::bench_set` meets its contract: each row of the bench set computes. Assumes nothing.
 use mathlib.Core.Path.{refl}
 use Rattle.rules.specs.Opened.{everyRule}
-use Rattle.rules.proofs.bench_set.Statement.{statement}
-use Rattle.rules.proofs.bench_set.Tie as tie
+use Rattle.bench.proofs.bench_set.Statement.{statement}
+use Rattle.bench.proofs.bench_set.Tie as tie
 
 returns : tie.Need-returns
 unfolding everyRule

@@ -2,16 +2,20 @@
 -- and what they make or change is packed so. Assumes nothing.
 use mathlib.Core.Path.{_≡_}
 use Rattle.ground.specs.Field.{field, bit, pack, unpack}
-use Rattle.rules.specs.Types.{ℕ, _+_, Bool, not, List, [], _∷_, Saved, SlotIndex, Metadata, Descriptor}
+use Rattle.rules.specs.Types.{ℕ, _+_, Bool, not, List, [], _∷_}
+use Rattle.rules.specs.declared.Saved.{Saved}
+use Rattle.rules.specs.declared.SlotIndex.{SlotIndex}
+use Rattle.rules.specs.declared.Metadata.{Metadata}
+use Rattle.rules.specs.declared.Descriptor.{Descriptor}
 use Rattle.rules.specs.Words.{dstNode, dstSlot, noteIndex, srcNode, zeroLow, slotAndSource, usesMsgSize, usesMsgOffset, isAckPkt, reservedBit, incarnation, offset, isDirectIo, isControlPkt, notifies, goes, zeroTop, metaFlag, metaCount, msgSize, metaPart}
 use Rattle.rules.specs.Saved.{resets, enables, reservedBits, ownIncarnation, ownNode}
 use Rattle.rules.specs.Queues.{isEmpty, hasRoom}
 use Rattle.rules.specs.Registers.{pcsr1, intHi, intLo}
 use Rattle.rules.specs.Sending.{isDone, withStalled, withoutStalled, withDone, withoutStalledAndDone, nextHeader}
 use Rattle.rules.specs.Checksum.{checkOf}
 use Rattle.rules.specs.Packet.{checkWord}
 use Rattle.rules.specs.Slots.{slotNoteIndex, validBit, indirectBit, doesAcks, slotNotifies, slotReserve, ackNoteIndex}
 use Rattle.rules.specs.Notices.{token, enqueues, message, fault}
 
 pub record Layouts : Type 0 where
   -- "PCSR0: reset 1, enable 1, reserved 10, incarnation 4, node 16"

@@ -1,11 +1,11 @@
--- `rules::layouts` meets its contract: each word is read and made by document 01's widths. Assumes nothing.
+-- `bench::layouts` meets its contract: each word is read and made by document 01's widths. Assumes nothing.
 use mathlib.Core.Path.{refl}
 use native.Mathlib.Omega.{arith}
 use Rattle.ground.proofs.Field.{bit-flag, with-same, with-above, with-below, without-same, without-above, without-below}
 use Rattle.rules.specs.Registers.{pcsr1}
 use Rattle.rules.specs.Sending.{nextHeader}
-use Rattle.rules.proofs.layouts.Statement.{statement}
-use Rattle.rules.proofs.layouts.Tie as tie
+use Rattle.bench.proofs.layouts.Statement.{statement}
+use Rattle.bench.proofs.layouts.Tie as tie
 
 returns : tie.Need-returns
 unfolding pcsr1 nextHeader
