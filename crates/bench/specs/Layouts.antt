@@ -2,16 +2,17 @@
 -- and what they make or change is packed so. Assumes nothing.
 use mathlib.Core.Path.{_≡_}
 use Rattle.ground.specs.Field.{field, bit, pack, unpack}
+use Prim.Native.Nat.{_≤_}
 use Rattle.rules.specs.Types.{ℕ, _+_, Bool, not, List, [], _∷_}
 use Rattle.rules.specs.declared.Saved.{Saved}
 use Rattle.rules.specs.declared.SlotIndex.{SlotIndex}
 use Rattle.rules.specs.declared.Metadata.{Metadata}
 use Rattle.rules.specs.declared.Descriptor.{Descriptor}
-use Rattle.rules.specs.Words.{dstNode, dstSlot, noteIndex, srcNode, zeroLow, slotAndSource, usesMsgSize, usesMsgOffset, isAckPkt, reservedBit, incarnation, offset, isDirectIo, isControlPkt, notifies, goes, zeroTop, metaFlag, metaCount, msgSize, metaPart}
-use Rattle.rules.specs.Saved.{resets, enables, reservedBits, ownIncarnation, ownNode}
+use Rattle.rules.specs.Words.{dstNode, dstSlot, noteIndex, srcNode, zeroLow, slotAndSource, usesMsgSize, usesMsgOffset, isAckPkt, reservedBit, incarnation, offset, isDirectIo, isControlPkt, notifies, goes, zeroTop, metaFlag, metaCount, msgSize, metaPart, most24}
+use Rattle.rules.specs.Saved.{resets, enables, reservedBits, ownIncarnation, ownNode, withoutReset}
 use Rattle.rules.specs.Queues.{isEmpty, hasRoom}
 use Rattle.rules.specs.Registers.{pcsr1, intHi, intLo}
-use Rattle.rules.specs.Sending.{isDone, withStalled, withoutStalled, withDone, withoutStalledAndDone, nextHeader}
+use Rattle.rules.specs.Sending.{isDone, withStalled, withoutStalled, withDone, withoutStalledAndDone, nextPayload, nextHeader, afterPacket}
 use Rattle.rules.specs.Checksum.{checkOf}
 use Rattle.rules.specs.Packet.{checkWord}
 use Rattle.rules.specs.Slots.{slotNoteIndex, validBit, indirectBit, doesAcks, slotNotifies, slotReserve, ackNoteIndex}
@@ -20,6 +21,8 @@ use Rattle.rules.specs.Notices.{token, enqueues, message, fault}
 pub record Layouts : Type 0 where
   -- "PCSR0: reset 1, enable 1, reserved 10, incarnation 4, node 16"
   pub word-pcsr0 : (w : ℕ) → unpack (1 ∷ 1 ∷ 10 ∷ 4 ∷ 16 ∷ []) w ≡ bit (resets w) ∷ bit (enables w) ∷ reservedBits w ∷ ownIncarnation w ∷ ownNode w ∷ []
+  -- "the other fields are stored with reset 0"
+  pub reset-cleared : (w : ℕ) → unpack (1 ∷ 31 ∷ []) (withoutReset w) ≡ 0 ∷ field 0 31 w ∷ []
   -- "PCSR1: ready (1), int_hi, int_lo, idle (1), nbqr_empty, nbqr_full, 6 zero, 4 bits holding 4, 16 zero"
   pub word-pcsr1 : (s : Saved) → pcsr1 s ≡ pack (1 ∷ 1 ∷ 1 ∷ 1 ∷ 1 ∷ 1 ∷ 6 ∷ 4 ∷ 16 ∷ []) (1 ∷ s .inthi ∷ s .intlo ∷ 1 ∷ bit (isEmpty (s .nbqr)) ∷ bit (not (hasRoom (s .nbqr))) ∷ 0 ∷ 4 ∷ 0 ∷ [])
   pub word-pcsr1-written : (w : ℕ) → unpack (1 ∷ 1 ∷ 1 ∷ 29 ∷ []) w ≡ field 31 1 w ∷ bit (intHi w) ∷ bit (intLo w) ∷ field 0 29 w ∷ []
@@ -34,6 +37,9 @@ pub record Layouts : Type 0 where
   pub control0 : (w : ℕ) → unpack (1 ∷ 1 ∷ 1 ∷ 1 ∷ 4 ∷ 24 ∷ []) w ≡ bit (usesMsgSize w) ∷ bit (usesMsgOffset w) ∷ bit (isAckPkt w) ∷ reservedBit w ∷ incarnation w ∷ offset w ∷ []
   -- "control1 (direct_io, control_pkt, notify, go, meta_data, meta_cnt 3, msg_size 24)"
   pub control1 : (w : ℕ) → unpack (1 ∷ 1 ∷ 1 ∷ 1 ∷ 1 ∷ 3 ∷ 24 ∷ []) w ≡ bit (isDirectIo w) ∷ bit (isControlPkt w) ∷ bit (notifies w) ∷ bit (goes w) ∷ bit (metaFlag w) ∷ metaCount w ∷ msgSize w ∷ []
+  -- "use bits, meta_data and meta_cnt go to 0"; the offset rises, where it fits, and the rest stays
+  pub control0-after : (d : Descriptor) → offset (d .control0) + nextPayload d ≤ most24 → unpack (2 ∷ 6 ∷ 24 ∷ []) (afterPacket d .control0) ≡ 0 ∷ field 24 6 (d .control0) ∷ (offset (d .control0) + nextPayload d) ∷ []
+  pub control1-after : (d : Descriptor) → unpack (4 ∷ 4 ∷ 24 ∷ []) (afterPacket d .control1) ≡ field 28 4 (d .control1) ∷ 0 ∷ msgSize (d .control1) ∷ []
   -- "3 is zero 4, meta flag 1, meta_len 3, msg_size 24"
   pub word3 : (w : ℕ) → unpack (4 ∷ 1 ∷ 3 ∷ 24 ∷ []) w ≡ zeroTop w ∷ bit (metaFlag w) ∷ metaCount w ∷ msgSize w ∷ []
   pub word3-made : (node : ℕ) (d : Descriptor) → nextHeader node d .control1 ≡ pack (4 ∷ 1 ∷ 3 ∷ 24 ∷ []) (0 ∷ bit (metaFlag (d .control1)) ∷ metaCount (d .control1) ∷ msgSize (d .control1) ∷ [])

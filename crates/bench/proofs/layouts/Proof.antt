@@ -1,17 +1,39 @@
 -- `bench::layouts` meets its contract: each word is read and made by document 01's widths. Assumes nothing.
-use mathlib.Core.Path.{refl}
+use mathlib.Core.Path.{_≡_, refl}
+use mathlib.Core.List.{[], _∷_}
+use Prim.Native.Nat.{ℕ, _+_, _≤_}
 use native.Mathlib.Omega.{arith}
+use Rattle.ground.specs.Field.{field, unpack, without}
 use Rattle.ground.proofs.Field.{bit-flag, with-same, with-above, with-below, without-same, without-above, without-below}
 use Rattle.rules.specs.Registers.{pcsr1}
-use Rattle.rules.specs.Sending.{nextHeader}
+use Rattle.rules.specs.declared.Descriptor.{Descriptor}
+use Rattle.rules.specs.Words.{offset, msgSize, most24}
+use Rattle.rules.specs.Saved.{withoutReset}
+use Rattle.rules.specs.Sending.{nextPayload, nextHeader, afterPacket}
 use Rattle.bench.proofs.layouts.Statement.{statement}
 use Rattle.bench.proofs.layouts.Tie as tie
 
+-- The reset bit is the top one.
+reset : (w : ℕ) → unpack (1 ∷ 31 ∷ []) (withoutReset w) ≡ 0 ∷ field 0 31 w ∷ []
+reset w =
+    let top : field 31 1 (withoutReset w) ≡ 0 = omega arith in
+    let rest : field 0 31 (withoutReset w) ≡ field 0 31 w = omega arith in
+    λ i. top i ∷ rest i ∷ []
+
+-- The use bits are the two at the top, and the offset, which stands lowest, does not reach the others.
+after0 : (w n : ℕ) → offset w + n ≤ most24 → unpack (2 ∷ 6 ∷ 24 ∷ []) (without 30 2 w + n) ≡ 0 ∷ field 24 6 w ∷ (offset w + n) ∷ []
+after0 w n h =
+    let top : field 30 2 (without 30 2 w + n) ≡ 0 = omega arith in
+    let rest : field 24 6 (without 30 2 w + n) ≡ field 24 6 w = omega arith in
+    let low : field 0 24 (without 30 2 w + n) ≡ offset w + n = omega arith in
+    λ i. top i ∷ rest i ∷ low i ∷ []
+
 returns : tie.Need-returns
-unfolding pcsr1 nextHeader
+unfolding pcsr1 nextHeader afterPacket
 returns c =
     record {
       word-pcsr0 = λ w. rw (bit-flag 31 w, bit-flag 30 w);
+      reset-cleared = reset;
       word-pcsr1 = λ s. omega arith;
       word-pcsr1-written = λ w. rw (bit-flag 30 w, bit-flag 29 w);
       address0 = λ w. refl;
@@ -20,6 +42,8 @@ returns c =
       word1-made = λ slot node. omega arith;
       control0 = λ w. rw (bit-flag 31 w, bit-flag 30 w, bit-flag 29 w);
       control1 = λ w. rw (bit-flag 31 w, bit-flag 30 w, bit-flag 29 w, bit-flag 28 w, bit-flag 27 w);
+      control0-after = λ d h. after0 (d .control0) (nextPayload d) h;
+      control1-after = λ d. rw (without-above 24 4 28 4 (d .control1) (omega arith), without-same 24 4 (d .control1), without-below 24 4 0 24 (d .control1) (omega arith));
       word3 = λ w. rw (bit-flag 27 w);
       word3-made = λ node d. rw (bit-flag 27 (d .control1)) (omega arith);
       word4-made = λ covered. omega arith;
