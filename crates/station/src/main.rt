@@ -1,48 +1,32 @@
 // The station: records of 192 bytes from standard input, a line for each to standard output. Whatever is at hand is read, every whole
 // record of it is answered, and the lines are written before more is waited for.
+mod answering;
+
+use answering::Answered;
+use answering::answer;
 use libc::STDIN_FILENO;
 use libc::STDOUT_FILENO;
 use rules::Saved;
 ghost use mathlib.Core.Path.{_≡_};
-ghost use Prim.Native.Nat.{_+_, _-_, _≤_};
-ghost use lib.ListN.{length};
+ghost use Prim.Native.Nat.{_+_, _<_, _≤_};
+ghost use lib.ListN.{length, take};
+ghost use Rattle.rules.specs.Memory.{machine};
+ghost use Rattle.rules.specs.Station.{recordSize};
+ghost use Rattle.station.specs.Turns.{Rooms, SoFar, Turned, InTurns};
 
-// Reads what is at hand behind the bytes that are kept; how many it were, 0 at the end of the input.
+// Reads what is at hand behind the bytes that are kept, and says how many bytes came: 0 at the end of the input.
 fn read_on(input: &mut [u8], kept: usize) -> usize
     requires { ⌜ kept ≤ length (now input) ⌝ }
-    ensures { λ r. ⌜ kept + r ≤ length (now (input .exit)) ⌝ }
+    ensures { λ r. ⌜ (kept + r ≤ length (now (input .exit))) × (take kept (now (input .exit)) ≡ take kept (now (input .entry))) ⌝ }
 {
     let behind = &mut input[kept..];
     let got = libc::read(STDIN_FILENO, behind);
     io::count(got, behind)
 }
 
-// The records that are at hand end here: the whole ones, and at the end of the input a torn one too.
-fn answered_to(n: usize, filled: usize) -> usize
-    ensures { λ r. ⌜ (r ≤ filled) × (filled ≤ r + 191) ⌝ }
-{
-    if n == 0 {
-        filled
-    } else {
-        filled - filled % 192
-    }
-}
-
-// The bytes from one place to another come to the front, by way of a room for less than a record; how many they are.
-fn keep(input: &mut [u8], rest: &mut [u8], from: usize, to: usize) -> usize
-    requires { ⌜ (from ≤ to) × (to ≤ length (now input)) × (to ≤ from + length (now rest)) ⌝ }
-    ensures { λ r. ⌜ r ≡ to - from ⌝ }
-{
-    let n = to - from;
-    words::copy(rest, 0, &input[from..to]);
-    words::copy(input, 0, &rest[..n]);
-    n
-}
-
-// What a turn leaves: the saved state, how many bytes wait for the rest of their record, whether there is more.
+// What a turn leaves, and whether there is more.
 struct Left {
-    saved: Saved,
-    kept: usize,
+    answered: Answered,
     more: bool,
 }
 
@@ -58,34 +42,47 @@ fn turn(
     rest: &mut [u8],
     kept: usize,
 ) -> Left
-    requires { ⌜ (49152 ≡ length (now input)) × (7424 ≡ length (now out)) × (192 ≡ length (now rest)) × (kept ≤ 191) ⌝ }
-    ensures { λ r. ⌜ r .kept ≤ 191 ⌝ }
+    requires { ⌜ Rooms (now input) (now out) (now rest) × (kept < recordSize) × SoFar (machine s (now send) (now receive) (now bytes) (now notices)) (take kept (now input)) ⌝ }
+    ensures { λ r. ⌜ Turned (machine s (now (send .entry)) (now (receive .entry)) (now (bytes .entry)) (now (notices .entry))) (take kept (now (input .entry))) r (now (send .exit)) (now (receive .exit)) (now (bytes .exit)) (now (notices .exit)) (now (input .exit)) (now (out .exit)) ⌝ }
 {
     let n = read_on(input, kept);
-    let filled = kept + n;
-    let end = answered_to(n, filled);
-    let t = records::run(s, send, receive, bytes, notices, &input[..end], out);
-    let saved = t.saved;
-    let written = io::write_all(STDOUT_FILENO, &out[..t.next]);
-    let left = keep(input, rest, end, filled);
+    let answered = answer(
+        s,
+        send,
+        receive,
+        bytes,
+        notices,
+        input,
+        out,
+        rest,
+        kept + n,
+        n,
+    );
+    let next = answered.next;
+    let written = io::write_all(STDOUT_FILENO, &out[..next]);
     Left {
-        saved,
-        kept: left,
+        answered,
         more: written & (n != 0),
     }
 }
+
+// However the reads cut the input, the turns write the station's lines.
+fn in_turns()
+    ensures { λ r. ⌜ InTurns ⌝ }
+{}
 
 fn main() {
     let mut send = [0u32; 1024];
     let mut receive = [0u32; 2048];
     let mut bytes = [0u8; 32768];
     let mut notices = [0u32; 2048];
-    // 256 records, as many lines of 29 bytes, and a room for a torn record.
+    // 256 records of 192 bytes, as many lines of 29 bytes at most, and less than a record that waits for its rest.
     let mut input = [0u8; 49152];
     let mut out = [0u8; 7424];
     let mut rest = [0u8; 192];
     let mut saved = records::open(&mut send, &mut receive, &bytes, &mut notices);
     let mut kept = 0;
+    // Every loop has to be proved to end: so many turns that no input reaches the last.
     let mut turns = u64::MAX;
     while turns > 0 {
         let t = turn(
@@ -102,8 +99,9 @@ fn main() {
         if !t.more {
             break;
         }
-        saved = t.saved;
-        kept = t.kept;
+        let answered = t.answered;
+        saved = answered.saved;
+        kept = answered.kept;
         turns -= 1;
     }
 }

@@ -2,8 +2,8 @@
 use mathlib.Core.Path.{sym}
 use native.Mathlib.Omega.{arith}
 use borrow.Author.Needs.{needs}
-use lib.ListN.{length-take}
 use lib.Seq.{length-take-le}
+use Rattle.station.proofs.Turns.{turned, some-came}
 use Rattle.station.proofs.turn.Statement.{statement}
 use Rattle.station.proofs.turn.Tie as tie
 
@@ -15,15 +15,8 @@ turn-spec =
     (λ c. search needs)
     (λ c κs. search needs)
     (λ c. search needs)
-    (λ c. sym (length-take-le _ _ (omega arith)))
-    (λ c κs. simp length-take (omega arith))
-    (λ c. search needs)
-    (λ c. sym (length-take-le _ _ (omega arith)))
+    (λ c. sym (length-take-le _ _ (search needs)))
     (λ c κs. search needs)
-    (λ c κs.
-    let part = c .before .before .before .before .before .before .before .before .before .before .before .before .before .before .before .before .before .before .before .before .before .before in
-    let asked = part .before .before .before .before .before .before .before .before .before .before .before .before .pre in
-    (omega (arith, part .answered-to .ensures .0), omega (arith, part .before .before .before .read-on .ensures), omega (arith, part .answered-to .ensures .1, asked .2)))
     (λ c. search needs)
     (λ c. search needs)
     (λ c. search needs)
@@ -31,4 +24,8 @@ turn-spec =
     (λ c. search needs)
     (λ c. search needs)
     (λ c. search needs)
-    (λ c. omega (arith, c .before .before .before .before .keep .ensures, c .before .before .before .before .before .before .before .before .before .before .before .before .before .before .before .before .before .before .before .before .before .before .before .before .before .before .before .answered-to .ensures .1)))
+    (λ c.
+    let answered = c .before .before .before .before .before .before .before .before .before .before .before .before .before .before .before .before in
+    let got = answered .before .before .before .before .before .before .before .before .before .before in
+    let start = got .before .before .before .before .before .before .before .before .before in
+    turned (start .args .input .now) (got .read-on .last .0) (start .args .kept) (got .read-on .result) (got .read-on .ensures) (answered .answer .ensures) (some-came (c .write-all .result) (got .read-on .result))))

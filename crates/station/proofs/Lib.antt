@@ -1,0 +1,2 @@
+pub mod Hand
+pub mod Turns
