@@ -1,12 +1,12 @@
 -- The bytes at hand: which are answered, which wait, and that they come to the front. Assumes nothing.
 use Prim.Native.Nat.{ℕ, _+_, _-_, _*_, _/_, _%_, _<_, _≤_}
 use mathlib.Core.Path.{_≡_, refl, sym, ap, _∙_}
-use mathlib.Core.List.{List, _++_}
+use mathlib.Core.List.{List}
 use native.Mathlib.Omega.{arith}
 use borrow.Author.Tests.{eq-eqb, ne-eqb}
 use lib.Dec.{eqb}
 use lib.ListN.{length, take, drop}
-use lib.Seq.{sets, length-sets, length-take-le, take-at, drop-at, take-add, take-take}
+use lib.Seq.{sets, length-sets, length-take-le, drop-at, take-add, take-take}
 use Rattle.ground.specs.Lists.{part}
 use Rattle.ground.proofs.Choice.{arm-yes, arm-no, pick-holds}
 use Rattle.ground.proofs.Lists.{part-sets, length-part}

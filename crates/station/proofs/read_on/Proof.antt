@@ -1,5 +1,4 @@
 -- `station::read_on` meets its contract. Assumes nothing.
-use native.Mathlib.Omega.{arith}
 use borrow.Author.Needs.{needs}
 use lib.Seq.{length-take-le, take-at}
 use Rattle.station.proofs.read_on.Statement.{statement}

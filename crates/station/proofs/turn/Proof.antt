@@ -1,6 +1,5 @@
 -- `station::turn` meets its contract. Assumes nothing.
 use mathlib.Core.Path.{sym}
-use native.Mathlib.Omega.{arith}
 use borrow.Author.Needs.{needs}
 use lib.Seq.{length-take-le}
 use Rattle.station.proofs.Turns.{turned, some-came}
