@@ -4,4 +4,3 @@ pub mod Runs
 pub mod History
 pub mod Places
 pub mod Demands
-pub mod Worked

@@ -1,6 +1,5 @@
 // What the buyer asked for, each the contract of a function that does nothing, so that it cannot go missing.
 ghost use Rattle.demands.specs.Demands.{RefusalsAlterNothing, ReadBack, OnlyFormed, PacketCounts, ThirdDemand, NeverUnsound};
-ghost use Rattle.demands.specs.Worked.{NotVacuous};
 
 // Demand 1: a refusal alters nothing but the stalled mark.
 pub fn refusals_alter_nothing()
@@ -30,9 +29,4 @@ pub fn third_demand()
 // No call of a run after a reset is answered sizes or unsound.
 pub fn never_unsound()
     ensures { λ r. ⌜ NeverUnsound ⌝ }
-{}
-
-// A run that meets every premise, worked out.
-pub fn not_vacuous()
-    ensures { λ r. ⌜ NotVacuous ⌝ }
 {}

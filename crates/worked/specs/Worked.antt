@@ -6,10 +6,10 @@ use Rattle.rules.specs.Memory.{Machine, machine}
 use Rattle.rules.specs.Saved.{withLastSender, resetSaved}
 use Rattle.rules.specs.Notices.{fault}
 use Rattle.rules.specs.Calls.{writes, receives, takes}
-use Rattle.demands.specs.Types.{Notice}
+use Rattle.rules.specs.declared.Notice.{Notice}
 use Rattle.demands.specs.Runs.{Run, start, _▸_, calls, outside, after}
 use Rattle.demands.specs.History.{begun, AfterReset, answers, handed, posted, taken}
 use Rattle.demands.specs.Places.{count, standing, found}
 
 -- A machine that is not sound: its last sender is none.
 abbrev before : Machine

@@ -1,4 +1,4 @@
--- `demands::not_vacuous` meets its contract: the worked run computes. Assumes nothing.
+-- `worked::not_vacuous` meets its contract: the worked run computes. Assumes nothing.
 use Prim.Native.Nat.{ℕ, _≤_}
 use mathlib.Core.Path.{_≡_, refl}
 use mathlib.Core.Logic.{_≢_}
@@ -8,13 +8,15 @@ use native.Mathlib.Decide.{ℕ-discrete}
 use lib.Dec.{eqb}
 use Rattle.ground.proofs.Field.{bit-lt}
 use Rattle.rules.specs.Opened.{everyRule}
-use Rattle.demands.specs.Types.{ListIndex, BlockAddress, Notice}
+use Rattle.rules.specs.declared.ListIndex.{ListIndex}
+use Rattle.rules.specs.declared.BlockAddress.{BlockAddress}
+use Rattle.rules.specs.declared.Notice.{Notice}
 use Rattle.demands.specs.Runs.{rewritten, afterEvent, after, gives, opens, posts, gets, rests, clears, storeAct, writingAct, postingAct, receivingAct, sendingAct, takingAct, act}
 use Rattle.demands.specs.History.{gathered, answerOf, handedBy, onList, postedBy, takenBy}
 use Rattle.demands.specs.Places.{count, across, entries, blockOf, walk, noticeAt}
 use Rattle.demands.proofs.Sums.{same-other}
-use Rattle.demands.proofs.not_vacuous.Statement.{statement}
-use Rattle.demands.proofs.not_vacuous.Tie as tie
+use Rattle.worked.proofs.not_vacuous.Statement.{statement}
+use Rattle.worked.proofs.not_vacuous.Tie as tie
 
 -- No act of the run is a reset.
 rests-on : rests ≢ clears

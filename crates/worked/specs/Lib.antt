@@ -1,0 +1,2 @@
+-- The run of `demands` that is worked out. Assumes nothing.
+pub mod Worked
