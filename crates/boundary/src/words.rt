@@ -7,7 +7,7 @@ ghost use lib.ListN.{length};
 ghost use Rattle.boundary.specs.Boundary.{savedSize, savedOf, wordsOf, Writable, Ends};
 
 // The state that 15 words say.
-pub fn load(w: &[u32]) -> Saved
+pub(crate) fn load(w: &[u32]) -> Saved
     requires { ⌜ length (now w) ≡ savedSize ⌝ }
     ensures { λ r. ⌜ r ≡ savedOf (now (w .entry)) ⌝ }
 {
@@ -59,7 +59,7 @@ fn store(w: &mut [u32], s: Saved)
 }
 
 // The state and the answer go into the lent words; the reply's number.
-pub fn finish(saved: &mut [u32], answer: &mut [u32], a: Answer) -> u32
+pub(crate) fn finish(saved: &mut [u32], answer: &mut [u32], a: Answer) -> u32
     requires { ⌜ Writable (now saved) (now answer) ⌝ }
     ensures { λ r. ⌜ Ends a (now (answer .entry)) r (now (saved .exit)) (now (answer .exit)) ⌝ }
 {

@@ -53,6 +53,12 @@ pub or-neither : (a b : Bool) → (a || b) ≡ false → (a ≡ false) × (b ≡
 or-neither true b e = absurd (true≢false e)
 or-neither false b e = (refl, e)
 
+-- Not the first without the second: the first fails, or the second holds.
+pub not-both : (a b : Bool) → not (a && not b) ≡ (not a || b)
+not-both true true = refl
+not-both true false = refl
+not-both false b = refl
+
 -- The opposite of what fails holds.
 pub not-yes : {b : Bool} → b ≡ false → not b ≡ true
 not-yes e = ap not e

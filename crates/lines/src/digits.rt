@@ -26,7 +26,7 @@ fn last_decimal(n: u32) -> u8
 }
 
 // "value as 8 lowercase hex digits", between two spaces.
-pub fn put_hexadecimal(out: &mut [u8], at: usize, n: u32) -> usize
+pub(crate) fn put_hexadecimal(out: &mut [u8], at: usize, n: u32) -> usize
     requires { ⌜ at + 10 ≤ length (now out) ⌝ }
     ensures { λ r. ⌜ Written (ascii " " ++ hexadecimal 8 n ++ ascii " ") at (now (out .entry)) (now (out .exit)) r ⌝ }
     ensures { λ r. ⌜ r ≡ at + 10 ⌝ }
@@ -48,7 +48,7 @@ pub fn put_hexadecimal(out: &mut [u8], at: usize, n: u32) -> usize
 }
 
 // "Kind and interrupts print in decimal", the last three digits at most, and the byte that ends them.
-pub fn put_decimal(out: &mut [u8], at: usize, n: u32, end: u8) -> usize
+pub(crate) fn put_decimal(out: &mut [u8], at: usize, n: u32, end: u8) -> usize
     requires { ⌜ at + 4 ≤ length (now out) ⌝ }
     ensures { λ r. ⌜ Written (decimal 3 n ++ (end ∷ [])) at (now (out .entry)) (now (out .exit)) r ⌝ }
     ensures { λ r. ⌜ r ≤ at + 4 ⌝ }

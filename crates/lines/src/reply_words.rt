@@ -40,7 +40,7 @@ fn put_refusal(out: &mut [u8], at: usize, why: Refusal) -> usize
 }
 
 // The word of a reply.
-pub fn put_word(out: &mut [u8], at: usize, reply: Reply) -> usize
+pub(crate) fn put_word(out: &mut [u8], at: usize, reply: Reply) -> usize
     requires { ⌜ at + 11 ≤ length (now out) ⌝ }
     ensures { λ r. ⌜ Written (getD replyWords (replyNumber reply) []) at (now (out .entry)) (now (out .exit)) r ⌝ }
 {

@@ -1,11 +1,12 @@
 -- The steps of postings and takes, put together. Assumes nothing.
 use mathlib.Core.Path.{_≡_, sym, ap, _∙_}
+use mathlib.Core.Bool.{true, false}
 use mathlib.Core.Logic.{_≢_}
 use mathlib.Core.List.{List}
-use Prim.Native.Nat.{ℕ, _+_, _-_, _%_, _<_, _≤_}
+use Prim.Native.Nat.{ℕ, _+_, _-_, _<_, _≤_}
 use native.Mathlib.Nat.{add-zero}
 use native.Mathlib.Omega.{arith}
-use borrow.Author.Tests.{eq-eqb, ne-eqb}
+use borrow.Author.Tests.{ne-eqb}
 use lib.ListN.{length, getD, set, take, drop, length-set}
 use lib.Seq.{sets}
 use Rattle.ground.specs.Lists.{over}
@@ -24,7 +25,7 @@ use Rattle.rules.specs.Memory.{block, blockFirst, headWord, placeWord, nbqrFrom
 use Rattle.rules.specs.Saved.{withNbqr}
 use Rattle.rules.specs.Queues.{oldest, removed}
 use Rattle.rules.specs.Board.{Board}
-use Rattle.rules.specs.Notices.{blockWords, token, placeOf, emptyInterrupt, fillHead, pushNqr, enqueueToken, post, postAll, takeBlock}
+use Rattle.rules.specs.Notices.{blockWords, enqueues, token, placeOf, emptyInterrupt, fillHead, pushNqr, enqueueToken, post, postAll, takeBlock}
 use Rattle.rules.specs.Calls.{wordsOf, actTake}
 use Rattle.sound.specs.Gated.{Gated}
 use Rattle.sound.proofs.Facts.{set-block}
@@ -46,21 +47,21 @@ block-copied notices room room₂ b first e inside long stored =
 -- ---- the token
 
 -- NQR takes it where the word enqueues.
-pub push-asks : (w : ℕ) (s : Saved) (receive : List ℕ) → Enqueues w s receive → w % 2 ≡ 1 → Pushable (s .nqr) receive
-push-asks w s receive t e = record { size = t .size; place = t .place; room = t .room (eq-eqb _ _ e) }
+pub push-asks : (w : ℕ) (s : Saved) (receive : List ℕ) → Enqueues w s receive → enqueues w ≡ true → Pushable (s .nqr) receive
+push-asks w s receive t e = record { size = t .size; place = t .place; room = t .room e }
 
 -- The push is the step where the word enqueues.
-pub enqueued : (w : ℕ) (s : Saved) (receive receive₂ : List ℕ) (r : Step) → w % 2 ≡ 1 → Does (pushNqr (token w)) 2 s receive r receive₂
+pub enqueued : (w : ℕ) (s : Saved) (receive receive₂ : List ℕ) (r : Step) → enqueues w ≡ true → Does (pushNqr (token w)) 2 s receive r receive₂
     → Does (enqueueToken w) 2 s receive r receive₂
 unfolding enqueueToken
 enqueued w s receive receive₂ r e d =
-    record { whole = λ notices sum. d .whole notices sum ∙ sym (pick-yes _ _ (eq-eqb _ _ e)); small = d .small }
+    record { whole = λ notices sum. d .whole notices sum ∙ sym (pick-yes _ _ e); small = d .small }
 
 -- Nothing is where it does not.
-pub passed : (w : ℕ) (s : Saved) (receive : List ℕ) → w % 2 ≢ 1 → Does (enqueueToken w) 2 s receive (record { saved = s; interrupts = 0 }) receive
+pub passed : (w : ℕ) (s : Saved) (receive : List ℕ) → enqueues w ≡ false → Does (enqueueToken w) 2 s receive (record { saved = s; interrupts = 0 }) receive
 unfolding enqueueToken
 passed w s receive e =
-    record { whole = λ notices sum. rw (add-zero sum) (sym (pick-no _ _ (ne-eqb _ _ e))); small = omega arith }
+    record { whole = λ notices sum. rw (add-zero sum) (sym (pick-no _ _ e)); small = omega arith }
 
 -- ---- the head
 

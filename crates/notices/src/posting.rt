@@ -104,8 +104,10 @@ fn enqueue_token(word: u32, s: Saved, receive: &mut [u32]) -> Step
     requires { ⌜ Enqueues word s (now receive) ⌝ }
     ensures { λ r. ⌜ Does (enqueueToken word) 2 s (now (receive .entry)) r (now (receive .exit)) ⌝ }
 {
-    if word % 2 == 1 {
-        push_nqr(word / 2 % 0x8000_0000, s, receive)
+    let enqueue = word % 2 == 1;
+    let token = word / 2 % 0x8000_0000;
+    if enqueue {
+        push_nqr(token, s, receive)
     } else {
         Step {
             saved: s,

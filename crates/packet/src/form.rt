@@ -14,7 +14,8 @@ fn put_metadata(room: &mut [u8], header: Header, metadata: Metadata) -> usize
     ensures { λ r. ⌜ Stored (metadataBytes header metadata) plainStart (now (room .entry)) (now (room .exit)) r ⌝ }
     ensures { λ r. ⌜ r ≤ flaggedStart ⌝ }
 {
-    if header.control1 / 0x800_0000 % 2 == 1 {
+    let flagged = header.control1 / 0x800_0000 % 2 == 1;
+    if flagged {
         let row = [metadata.a, metadata.b, metadata.c, metadata.d];
         words::copy_words(room, 20, &row);
         36

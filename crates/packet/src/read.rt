@@ -124,14 +124,18 @@ pub fn fields_ok(p: Packet) -> bool
     ensures { λ r. ⌜ r ≡ fieldsOk p ⌝ }
 {
     let h = p.header;
-    // Word 1's zero 4, word 2's reserved bit, word 3's zero 4, word 4's zero 16; meta_len; an ack's length.
-    (h.address1 % 16 == 0)
-        & (h.control0 / 0x1000_0000 % 2 == 0)
-        & (h.control1 / 0x1000_0000 % 16 == 0)
+    let zero_low = h.address1 % 16;
+    let ack_pkt = h.control0 / 0x2000_0000 % 2 == 1;
+    let reserved = h.control0 / 0x1000_0000 % 2;
+    let zero_top = h.control1 / 0x1000_0000 % 16;
+    let flagged = h.control1 / 0x800_0000 % 2 == 1;
+    let meta_len = h.control1 / 0x100_0000 % 8;
+    (zero_low == 0)
+        & (reserved == 0)
+        & (zero_top == 0)
         & (p.zerohalf == 0)
-        & ((h.control1 / 0x100_0000 % 8 <= 4)
-            & ((h.control1 / 0x800_0000 % 2 == 1) | (h.control1 / 0x100_0000 % 8 == 0)))
-        & (!(h.control0 / 0x2000_0000 % 2 == 1) | (p.length == 20))
+        & ((meta_len <= 4) & (flagged | (meta_len == 0)))
+        & (!ack_pkt | (p.length == 20))
 }
 
 // "body check or its padding": one comparison of the last word; an empty payload has none.

@@ -1,14 +1,13 @@
 -- What the functions of the table of steps ask of each other, and how the last of them decides. Assumes nothing.
 use mathlib.Core.Path.{_≡_, refl}
-use mathlib.Core.Bool.{true}
+use mathlib.Core.Bool.{true, false}
 use mathlib.Core.List.{List}
 use Prim.Native.Nat.{ℕ, _+_, _<_}
 use native.Mathlib.Omega.{arith}
-use borrow.Author.Tests.{ltb-true, lt-ltb, eq-eqb, ne-eqb}
+use borrow.Author.Tests.{ltb-true, lt-ltb, eq-eqb}
 use lib.Dec.{leb}
 use lib.ListN.{length}
 use Rattle.ground.specs.Choice.{need}
-use Rattle.ground.specs.Field.{field}
 use Rattle.ground.proofs.Choice.{go-on}
 use Rattle.ground.proofs.Tests.{not-yes}
 use Rattle.rules.specs.declared.Packet.{Packet}
@@ -16,7 +15,7 @@ use Rattle.rules.specs.declared.Receipt.{Receipt}
 use Rattle.rules.specs.declared.Saved.{Saved}
 use Rattle.rules.specs.declared.Slot.{Slot}
 use Rattle.rules.specs.declared.SlotIndex.{SlotIndex}
-use Rattle.rules.specs.Words.{dstNode, dstSlot, incarnation, offset}
+use Rattle.rules.specs.Words.{dstNode, dstSlot, isAckPkt, incarnation, offset}
 use Rattle.rules.specs.Memory.{receiveSize, slotsMost, slot}
 use Rattle.rules.specs.Saved.{ownIncarnation, ownNode}
 use Rattle.rules.specs.Packet.{packetOf, headerChecks, fieldsOk, bodyChecks}
@@ -56,11 +55,11 @@ data-asks v dataLength a ok =
 -- The steps before those of data, from what the code tested.
 pub decided : (s : Saved) (receive packet : List ℕ) (dataLength : ℕ) (p : Packet) (v : Slot) {r : Receipt} → Addressed s receive packet p
     → v ≡ slotAt receive (slot (dstSlot (p .header .address1))) → slotOk v dataLength ≡ true
-    → incarnation (p .header .control0) ≡ ownIncarnation (s .pcsr0) → (field 29 1 (p .header .control0) ≡ 1 → ⊥)
+    → incarnation (p .header .control0) ≡ ownIncarnation (s .pcsr0) → isAckPkt (p .header .control0) ≡ false
     → Decides (slot (dstSlot (p .header .address1))) v packet p r → r ≡ receiptOf s receive dataLength packet
 decided s receive packet dataLength p v a words valid same plain d =
     d .decides s receive dataLength
-    (record { addressed = a; slot = refl; words = words; valid = valid; incarnation = eq-eqb _ _ same; plain = ne-eqb _ _ plain })
+    (record { addressed = a; slot = refl; words = words; valid = valid; incarnation = eq-eqb _ _ same; plain = plain })
 
 -- Data's own steps decide, once all before them passed.
 pub data-steps : (i : SlotIndex) (v : Slot) (packet : List ℕ) (p : Packet) {r : Receipt}

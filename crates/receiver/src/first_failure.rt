@@ -38,32 +38,36 @@ fn data_receipt(i: SlotIndex, v: Slot, packet: &[u8], p: Packet) -> Receipt
 }
 
 // The steps from the slot on.
-fn receipt_in(s: Saved, receive: &[u32], bytes: usize, packet: &[u8], p: Packet) -> Receipt
+fn receipt_in(s: Saved, receive: &[u32], datalength: usize, packet: &[u8], p: Packet) -> Receipt
     requires { ⌜ Addressed s (now receive) (now packet) p ⌝ }
-    ensures { λ r. ⌜ r ≡ receiptOf s (now (receive .entry)) bytes (now (packet .entry)) ⌝ }
+    ensures { λ r. ⌜ r ≡ receiptOf s (now (receive .entry)) datalength (now (packet .entry)) ⌝ }
 {
     let h = p.header;
-    let i = SlotIndex(h.address1 / 0x1_0000 % 0x1_0000);
+    let dst_slot = h.address1 / 0x1_0000 % 0x1_0000;
+    let incarnation = h.control0 / 0x100_0000 % 16;
+    let our_incarnation = s.pcsr0 / 0x1_0000 % 16;
+    let ack_pkt = h.control0 / 0x2000_0000 % 2 == 1;
+    let i = SlotIndex(dst_slot);
     let v = tables::slot_at(receive, i);
     // "slot not valid"
-    if !slots::slot_ok(v, bytes) {
+    if !slots::slot_ok(v, datalength) {
         return Receipt::Fails(0x8000);
     }
     // "incarnation"
-    if h.control0 / 0x100_0000 % 16 != s.pcsr0 / 0x1_0000 % 16 {
+    if incarnation != our_incarnation {
         return Receipt::Fails(0x0100);
     }
     // "ack: notice to ack_note_index, no slot change, end"
-    if h.control0 / 0x2000_0000 % 2 == 1 {
+    if ack_pkt {
         return Receipt::Acks(i);
     }
     data_receipt(i, v, packet, p)
 }
 
 // All steps: those before the slot, then those from it on.
-pub(crate) fn receipt_of(s: Saved, receive: &[u32], bytes: usize, packet: &[u8]) -> Receipt
+pub(crate) fn receipt_of(s: Saved, receive: &[u32], datalength: usize, packet: &[u8]) -> Receipt
     requires { ⌜ Judgeable s (now receive) (now packet) ⌝ }
-    ensures { λ r. ⌜ r ≡ receiptOf s (now (receive .entry)) bytes (now (packet .entry)) ⌝ }
+    ensures { λ r. ⌜ r ≡ receiptOf s (now (receive .entry)) datalength (now (packet .entry)) ⌝ }
 {
     // "header check"
     if !read::header_checks(packet) {
@@ -71,17 +75,20 @@ pub(crate) fn receipt_of(s: Saved, receive: &[u32], bytes: usize, packet: &[u8])
     }
     let p = read::fields(packet);
     let h = p.header;
+    let dst_node = h.address0 / 0x1_0000 % 0x1000;
+    let our_node = s.pcsr0 % 0x1_0000;
+    let dst_slot = h.address1 / 0x1_0000 % 0x1_0000;
     // "zero and reserved fields, meta_len as meta_cnt, ack is 20 bytes (H)"
     if !read::fields_ok(p) {
         return Receipt::Fails(0x0080);
     }
     // "dst_node is ours"
-    if h.address0 / 0x1_0000 % 0x1000 != s.pcsr0 % 0x1_0000 {
+    if dst_node != our_node {
         return Receipt::Fails(0x2000);
     }
     // "slot at or above the count (H)"
-    if s.slots <= h.address1 / 0x1_0000 % 0x1_0000 {
+    if s.slots <= dst_slot {
         return Receipt::Fails(0x4000);
     }
-    receipt_in(s, receive, bytes, packet, p)
+    receipt_in(s, receive, datalength, packet, p)
 }

@@ -39,7 +39,8 @@ pub fn judge_receive(
     if let Verdict::No(why) = sound::gate(s, send, receive, bytes.len(), notices.len()) {
         return Receiving::No(why);
     }
-    if s.pcsr0 / 0x4000_0000 % 2 != 1 {
+    let enable = s.pcsr0 / 0x4000_0000 % 2 == 1;
+    if !enable {
         return Receiving::No(Refusal::Off);
     }
     if !read::is_packet(packet) {

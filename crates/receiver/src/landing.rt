@@ -47,7 +47,12 @@ pub(crate) fn landed(p: Packet, v: Slot) -> Slot
     ensures { λ r. ⌜ r ≡ rule.landed p v ⌝ }
 {
     let h = p.header;
+    let use_msg_size = h.control0 / 0x8000_0000 % 2 == 1;
+    let use_msg_offset = h.control0 / 0x4000_0000 % 2 == 1;
+    let offset = h.control0 % 0x100_0000;
     let flagged = h.control1 / 0x800_0000 % 2 == 1;
+    let flag_and_length = h.control1 / 0x100_0000 % 16 * 0x100_0000;
+    let msg_size = h.control1 % 0x100_0000;
     let new = p.metadata;
     let old = v.metadata;
     let metadata = metadata_if(flagged, new, old);
@@ -56,22 +61,10 @@ pub(crate) fn landed(p: Packet, v: Slot) -> Slot
         size: v.size,
         noteandflags: v.noteandflags,
         bytestogo: new_bytes_to_go(p, v),
-        msgsize: word_if(
-            h.control0 / 0x8000_0000 % 2 == 1,
-            h.control1 % 0x100_0000,
-            v.msgsize,
-        ),
-        msgoffset: word_if(
-            h.control0 / 0x4000_0000 % 2 == 1,
-            h.control0 % 0x100_0000,
-            v.msgoffset,
-        ),
+        msgsize: word_if(use_msg_size, msg_size, v.msgsize),
+        msgoffset: word_if(use_msg_offset, offset, v.msgoffset),
         acknote: v.acknote,
-        metaword: word_if(
-            flagged,
-            h.control1 / 0x100_0000 % 16 * 0x100_0000,
-            v.metaword,
-        ),
+        metaword: word_if(flagged, flag_and_length, v.metaword),
         metadata,
     }
 }

@@ -20,7 +20,8 @@ fn slot_and_source(i: SlotIndex, h: Header) -> u32
     requires { ⌜ i .0 < 64 ⌝ }
     ensures { λ r. ⌜ r ≡ slotAndSource (i .0) (srcNode (h .address1)) ⌝ }
 {
-    i.0 * 0x1_0000 + h.address1 / 16 % 0x1000 * 16
+    let src_node = h.address1 / 16 % 0x1000;
+    i.0 * 0x1_0000 + src_node * 16
 }
 
 // A message's notice: offset, msg_size and metadata are the slot's.
@@ -28,15 +29,13 @@ fn message_notice(i: SlotIndex, h: Header, v: Slot) -> Notice
     requires { ⌜ Notable i v ⌝ }
     ensures { λ r. ⌜ r ≡ messageNotice i h v ⌝ }
 {
+    let incarnation = h.control0 / 0x100_0000 % 16;
+    let flagged = v.metaword / 0x800_0000 % 2 == 1;
     let own = v.metadata;
-    let metadata = landing::metadata_if(
-        v.metaword / 0x800_0000 % 2 == 1,
-        own,
-        landing::NO_METADATA,
-    );
+    let metadata = landing::metadata_if(flagged, own, landing::NO_METADATA);
     Notice {
         word0: slot_and_source(i, h),
-        word1: h.control0 / 0x100_0000 % 16 * 0x100_0000 + v.msgoffset,
+        word1: incarnation * 0x100_0000 + v.msgoffset,
         word2: v.metaword + v.msgsize,
         metadata,
     }
@@ -47,9 +46,11 @@ fn ack_notice(i: SlotIndex, h: Header) -> Notice
     requires { ⌜ i .0 < 64 ⌝ }
     ensures { λ r. ⌜ r ≡ ackNotice i h ⌝ }
 {
+    let incarnation = h.control0 / 0x100_0000 % 16;
+    let offset = h.control0 % 0x100_0000;
     Notice {
         word0: slot_and_source(i, h),
-        word1: 0x2000_0000 + h.control0 / 0x100_0000 % 16 * 0x100_0000 + h.control0 % 0x100_0000,
+        word1: 0x2000_0000 + incarnation * 0x100_0000 + offset,
         word2: h.control1,
         metadata: landing::NO_METADATA,
     }
@@ -60,10 +61,13 @@ fn fault_notice(h: Header, status: u32) -> Notice
     requires { ⌜ status < 2 ^ 16 ⌝ }
     ensures { λ r. ⌜ r ≡ faultNotice h status ⌝ }
 {
+    let dst_node = h.address0 / 0x1_0000 % 0x1000;
+    let dst_slot = h.address1 / 0x1_0000 % 0x1_0000;
+    let src_node = h.address1 / 16 % 0x1000;
     Notice {
-        word0: h.address1 / 0x1_0000 % 0x1_0000 * 0x1_0000 + status,
+        word0: dst_slot * 0x1_0000 + status,
         word1: 0,
-        word2: h.address0 / 0x1_0000 % 0x1000 * 0x1_0000 + h.address1 / 16 % 0x1000,
+        word2: dst_node * 0x1_0000 + src_node,
         metadata: landing::NO_METADATA,
     }
 }
@@ -73,11 +77,12 @@ fn message_posting(i: SlotIndex, p: Packet, v: Slot) -> Posting
     requires { ⌜ Meeting i p v ⌝ }
     ensures { λ r. ⌜ Tells i p v r ⌝ }
 {
-    let flags = v.noteandflags;
-    if togo::completes(p, v) & (flags / 0x1000 % 2 == 1) {
+    let note_index = v.noteandflags / 0x1_0000 % 0x1_0000;
+    let notify = v.noteandflags / 0x1000 % 2 == 1;
+    if togo::completes(p, v) & notify {
         let h = p.header;
         let notice = message_notice(i, h, landing::landed(p, v));
-        return Posting::On(ListIndex(flags / 0x1_0000 % 0x1_0000), notice);
+        return Posting::On(ListIndex(note_index), notice);
     }
     Posting::Silent
 }
@@ -92,7 +97,8 @@ pub(crate) fn receipt_posting(receive: &[u32], p: Packet, r: Receipt) -> Posting
         Receipt::Fails(status) => Posting::On(ListIndex(0), fault_notice(h, status)),
         Receipt::Acks(i) => {
             let v = tables::slot_at(receive, i);
-            Posting::On(ListIndex(v.acknote / 0x1_0000 % 0x1_0000), ack_notice(i, h))
+            let ack_note_index = v.acknote / 0x1_0000 % 0x1_0000;
+            Posting::On(ListIndex(ack_note_index), ack_notice(i, h))
         }
         Receipt::Lands(i) => message_posting(i, p, tables::slot_at(receive, i)),
     }
@@ -107,5 +113,6 @@ pub(crate) fn needs_aqr(receive: &[u32], p: Packet, r: Receipt) -> bool
         return false;
     };
     let v = tables::slot_at(receive, i);
-    togo::completes(p, v) & (v.noteandflags / 0x2000 % 2 == 1)
+    let do_acks = v.noteandflags / 0x2000 % 2 == 1;
+    togo::completes(p, v) & do_acks
 }

@@ -4,20 +4,27 @@ use rules::Slot;
 ghost use mathlib.Core.Path.{_≡_};
 ghost use Rattle.rules.specs.Slots.{slotOk};
 
-// A slot is valid, beside a data memory of so many bytes.
-pub(crate) fn slot_ok(v: Slot, bytes: usize) -> bool
-    ensures { λ r. ⌜ r ≡ slotOk v bytes ⌝ }
+// A slot is valid, beside a data memory of datalength bytes.
+pub(crate) fn slot_ok(v: Slot, datalength: usize) -> bool
+    ensures { λ r. ⌜ r ≡ slotOk v datalength ⌝ }
 {
     let flags = v.noteandflags;
-    // In the clause's order: valid, indirect, reserve; base and size; bytes_to_go; ack_note_index; note_index if notify; words 4, 5 and 7.
-    (flags / 0x8000 % 2 == 1)
-        & !(flags / 0x4000 % 2 == 1)
-        & (flags % 0x1000 == 0)
-        & (v.base as usize + v.size as usize <= bytes)
+    let note_index = flags / 0x1_0000 % 0x1_0000;
+    let valid = flags / 0x8000 % 2 == 1;
+    let indirect = flags / 0x4000 % 2 == 1;
+    let notify = flags / 0x1000 % 2 == 1;
+    let reserve = flags % 0x1000;
+    let ack_note_index = v.acknote / 0x1_0000 % 0x1_0000;
+    let flag_and_length = v.metaword / 0x100_0000 % 16 * 0x100_0000;
+    // In the clause's order.
+    valid
+        & !indirect
+        & (reserve == 0)
+        & (v.base as usize + v.size as usize <= datalength)
         & togo::word_within_24(v.bytestogo)
-        & (v.acknote / 0x1_0000 % 0x1_0000 < 64)
-        & (!(flags / 0x1000 % 2 == 1) | (flags / 0x1_0000 % 0x1_0000 < 64))
+        & (ack_note_index < 64)
+        & (!notify | (note_index < 64))
         & (v.msgsize <= 16_777_215)
         & (v.msgoffset <= 16_777_215)
-        & (v.metaword == v.metaword / 0x100_0000 % 16 * 0x100_0000)
+        & (v.metaword == flag_and_length)
 }

@@ -65,11 +65,9 @@ fn size_added(control0: u32, control1: u32) -> u32
     ensures { λ r. ⌜ r ≡ pick (usesMsgSize control0) (msgSize control1) 0 ⌝ }
     ensures { λ r. ⌜ r ≤ most24 ⌝ }
 {
-    if control0 / 0x8000_0000 % 2 == 1 {
-        control1 % 0x100_0000
-    } else {
-        0
-    }
+    let use_msg_size = control0 / 0x8000_0000 % 2 == 1;
+    let msg_size = control1 % 0x100_0000;
+    if use_msg_size { msg_size } else { 0 }
 }
 
 // A number in the range, with a size added and a payload taken away.
@@ -107,5 +105,6 @@ pub(crate) fn completes(p: Packet, v: Slot) -> bool
     ensures { λ r. ⌜ r ≡ rule.completes p v ⌝ }
 {
     let h = p.header;
-    is_zero(new_bytes_to_go(p, v)) & ((0 < p.payloadlength) | (h.control0 / 0x8000_0000 % 2 == 1))
+    let use_msg_size = h.control0 / 0x8000_0000 % 2 == 1;
+    is_zero(new_bytes_to_go(p, v)) & ((0 < p.payloadlength) | use_msg_size)
 }

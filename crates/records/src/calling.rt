@@ -8,7 +8,7 @@ ghost use Rattle.rules.specs.Station.{recordSize, kindOf};
 ghost use Rattle.records.specs.Records.{PacketTo, outcomeOf, Gives};
 
 // The kind, byte 0. "A torn last record is kind 0, length ignored."
-pub fn kind_of(record: &[u8]) -> u8
+pub(crate) fn kind_of(record: &[u8]) -> u8
     ensures { λ r. ⌜ r ≡ kindOf (now («record» .entry)) ⌝ }
 {
     if record.len() == 192 { record[0] } else { 0 }
@@ -64,7 +64,7 @@ fn call_whole(
 }
 
 // The call that a record asks for; a torn one asks for none that is known.
-pub fn call(
+pub(crate) fn call(
     s: Saved,
     send: &mut [u32],
     receive: &mut [u32],

@@ -1,6 +1,6 @@
 -- A write's judgement, by the parts that the code reads. Assumes nothing.
 use mathlib.Core.Path.{_≡_, refl, sym, ap, _∙_}
-use mathlib.Core.Bool.{Bool, true, false, not, _||_}
+use mathlib.Core.Bool.{Bool, true, false, not, _&&_, _||_}
 use mathlib.Core.List.{List}
 use mathlib.Core.Logic.{_≢_}
 use Prim.Native.Nat.{ℕ, _+_, _-_, _/_, _%_, _<_, _≤_}
@@ -10,7 +10,7 @@ use lib.Dec.{eqb, ltb, leb}
 use lib.ListN.{length, getD}
 use Rattle.ground.specs.Choice.{pick}
 use Rattle.ground.proofs.Choice.{pick-by, pick-yes, pick-no, go-on, stop}
-use Rattle.ground.proofs.Tests.{flag-no, flag-yes, not-yes}
+use Rattle.ground.proofs.Tests.{flag-no, flag-yes, not-yes, not-no, not-both}
 use Rattle.rules.specs.declared.Descriptor.{Descriptor}
 use Rattle.rules.specs.declared.DescriptorIndex.{DescriptorIndex}
 use Rattle.rules.specs.declared.ListIndex.{ListIndex}
@@ -63,33 +63,33 @@ module _ (notices : List ℕ) (a : ℕ) {b : Bool} (e : b ≡ isBlock (length no
 module _ (send : List ℕ) (n : ℕ) (d : DescriptorIndex) (k v : ℕ) {words : Descriptor} {active : Bool} (e : words ≡ descriptorAt send d)
     (told : active ≡ isActive words) (writes : descriptorWordFixed k ≡ false) where
   -- The code's test is that of the descriptor.
-  active-test : (not active || stops k v) ≡ (not (isActive (descriptorAt send d)) || stops k v)
-  active-test = rw (told, e)
+  active-test : not (active && not (stops k v)) ≡ (not (isActive (descriptorAt send d)) || stops k v)
+  active-test = not-both active (stops k v) ∙ rw (told, e)
 
-  pub word-active : not (not active || stops k v) ≡ true → Writing.No Refusal.Active ≡ judgeSendWord send n (SendPart.OfDescriptor d k) v
+  pub word-active : (active && not (stops k v)) ≡ true → Writing.No Refusal.Active ≡ judgeSendWord send n (SendPart.OfDescriptor d k) v
   unfolding judgeSendWord
-  word-active h = go-on _ (not-yes writes) (stop _ (flag-no active-test h) refl)
+  word-active h = go-on _ (not-yes writes) (stop _ (sym active-test ∙ not-no h) refl)
 
-  module _ {rule : Bool} (ruled : rule ≡ goRule words v (msgSize v) n) (quiet : not (not active || stops k v) ≡ false) where
+  module _ {rule : Bool} (ruled : rule ≡ goRule words v (msgSize v) n) (quiet : (active && not (stops k v)) ≡ false) where
     -- So is the next.
-    go-test : (not (starts k v) || rule) ≡ (not (starts k v) || goRule (descriptorAt send d) v (msgSize v) n)
-    go-test = rw (ruled, e)
+    go-test : not (starts k v && not rule) ≡ (not (starts k v) || goRule (descriptorAt send d) v (msgSize v) n)
+    go-test = not-both (starts k v) rule ∙ rw (ruled, e)
 
-    pub word-bad : not (not (starts k v) || rule) ≡ true → Writing.No Refusal.BadValue ≡ judgeSendWord send n (SendPart.OfDescriptor d k) v
+    pub word-bad : (starts k v && not rule) ≡ true → Writing.No Refusal.BadValue ≡ judgeSendWord send n (SendPart.OfDescriptor d k) v
     unfolding judgeSendWord
-    word-bad h = go-on _ (not-yes writes) (go-on _ (flag-yes active-test quiet) (stop _ (flag-no go-test h) refl))
+    word-bad h = go-on _ (not-yes writes) (go-on _ (sym active-test ∙ not-yes quiet) (stop _ (sym go-test ∙ not-no h) refl))
 
     -- Past both.
-    word-goes : {r : Writing} → not (not (starts k v) || rule) ≡ false → r ≡ Writing.StoresSend (pick (starts k v) (SendStore.Start d) (SendStore.Word d k))
+    word-goes : {r : Writing} → (starts k v && not rule) ≡ false → r ≡ Writing.StoresSend (pick (starts k v) (SendStore.Start d) (SendStore.Word d k))
         → r ≡ judgeSendWord send n (SendPart.OfDescriptor d k) v
     unfolding judgeSendWord
-    word-goes h r = go-on _ (not-yes writes) (go-on _ (flag-yes active-test quiet) (go-on _ (flag-yes go-test h) r))
+    word-goes h r = go-on _ (not-yes writes) (go-on _ (sym active-test ∙ not-yes quiet) (go-on _ (sym go-test ∙ not-yes h) r))
 
-    pub word-starts : not (not (starts k v) || rule) ≡ false → starts k v ≡ true
+    pub word-starts : (starts k v && not rule) ≡ false → starts k v ≡ true
         → Writing.StoresSend (SendStore.Start d) ≡ judgeSendWord send n (SendPart.OfDescriptor d k) v
     word-starts h g = word-goes h (ap Writing.StoresSend (sym (pick-yes _ _ g)))
 
-    pub word-stored : not (not (starts k v) || rule) ≡ false → starts k v ≡ false
+    pub word-stored : (starts k v && not rule) ≡ false → starts k v ≡ false
         → Writing.StoresSend (SendStore.Word d k) ≡ judgeSendWord send n (SendPart.OfDescriptor d k) v
     word-stored h g = word-goes h (ap Writing.StoresSend (sym (pick-no _ _ g)))
 

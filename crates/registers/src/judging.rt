@@ -32,7 +32,8 @@ fn judge_pcsr0(v: u32) -> Writing
     if !pcsr0_ok(v) {
         return Writing::No(Refusal::BadValue);
     }
-    if v / 0x8000_0000 % 2 == 1 {
+    let reset = v / 0x8000_0000 % 2 == 1;
+    if reset {
         return Writing::Reset;
     }
     Writing::Sets(Number::Pcsr0)
@@ -106,18 +107,18 @@ fn judge_reached(
     s: Saved,
     send: &[u32],
     receive: &[u32],
-    bytes: usize,
+    datalength: usize,
     notices: &[u32],
     reached: Reach,
     v: u32,
 ) -> Writing
     requires { ⌜ Rams (length (now send)) (length (now receive)) ⌝ }
-    ensures { λ r. ⌜ Judges reached v s (now (send .entry)) (now (receive .entry)) bytes (now (notices .entry)) r ⌝ }
+    ensures { λ r. ⌜ Judges reached v s (now (send .entry)) (now (receive .entry)) datalength (now (notices .entry)) r ⌝ }
 {
     match reached {
         Reach::No(why) => Writing::No(why),
         Reach::Itself(register) => judge_register(s, notices, register, v),
-        Reach::InSend(i) => parts::judge_send_word(send, bytes, i, v),
+        Reach::InSend(i) => parts::judge_send_word(send, datalength, i, v),
         Reach::InReceive(i) => parts::judge_receive_word(receive, notices, i, v),
     }
 }
@@ -135,15 +136,16 @@ fn sound_or_reset(
     s: Saved,
     send: &[u32],
     receive: &[u32],
-    bytes: usize,
-    notices: usize,
+    datalength: usize,
+    noticelength: usize,
     a: u32,
     v: u32,
 ) -> bool
-    requires { ⌜ Sized (length (now send)) (length (now receive)) bytes notices ⌝ }
-    ensures { λ r. ⌜ r ≡ (isReset a v || soundOk s (now (send .entry)) (now (receive .entry)) bytes notices) ⌝ }
+    requires { ⌜ Sized (length (now send)) (length (now receive)) datalength noticelength ⌝ }
+    ensures { λ r. ⌜ r ≡ (isReset a v || soundOk s (now (send .entry)) (now (receive .entry)) datalength noticelength) ⌝ }
 {
-    ((a == 0) & (v / 0x8000_0000 % 2 == 1)) | sound_ok(s, send, receive, bytes, notices)
+    let reset = v / 0x8000_0000 % 2 == 1;
+    ((a == 0) & reset) | sound_ok(s, send, receive, datalength, noticelength)
 }
 
 // What a write of v to register number a does, or why it is refused.

@@ -62,45 +62,60 @@ fn receive_part(i: u32) -> ReceivePart
 }
 
 // A descriptor's word that is not read-only, by the descriptor's words; control1 is word 5.
-fn judge_open_word(words: Descriptor, bytes: usize, d: DescriptorIndex, k: u32, v: u32) -> Writing
+fn judge_open_word(
+    words: Descriptor,
+    datalength: usize,
+    d: DescriptorIndex,
+    k: u32,
+    v: u32,
+) -> Writing
     requires { ⌜ descriptorWordFixed k ≡ false ⌝ }
-    ensures { λ r. ⌜ ((send : List ℕ) → words ≡ descriptorAt send d → r ≡ judgeSendWord send bytes (SendPart.OfDescriptor d k) v) ⌝ }
+    ensures { λ r. ⌜ ((send : List ℕ) → words ≡ descriptorAt send d → r ≡ judgeSendWord send datalength (SendPart.OfDescriptor d k) v) ⌝ }
 {
     let go = v / 0x1000_0000 % 2 == 1;
+    let msg_size = v % 0x100_0000;
+    let starts = (k == 5) & go;
+    let stops = (k == 5) & !go;
     // "Writes to an active descriptor answer active, except control1 with go 0"
-    if !(!is_active(words) | ((k == 5) & !go)) {
+    if is_active(words) & !stops {
         return Writing::No(Refusal::Active);
     }
     // "A control1 write with go 1 needs" the go rule.
-    if !(!((k == 5) & go) | go_rule(words, v, v % 0x100_0000, bytes)) {
+    if starts & !go_rule(words, v, msg_size, datalength) {
         return Writing::No(Refusal::BadValue);
     }
-    if (k == 5) & go {
+    if starts {
         return Writing::StoresSend(SendStore::Start(d));
     }
     Writing::StoresSend(SendStore::Word(d, k))
 }
 
 // A descriptor's word.
-fn judge_descriptor_word(send: &[u32], bytes: usize, d: DescriptorIndex, k: u32, v: u32) -> Writing
+fn judge_descriptor_word(
+    send: &[u32],
+    datalength: usize,
+    d: DescriptorIndex,
+    k: u32,
+    v: u32,
+) -> Writing
     requires { ⌜ (d .0 < 4) × (length (now send) ≡ 1024) ⌝ }
-    ensures { λ r. ⌜ r ≡ judgeSendWord (now (send .entry)) bytes (SendPart.OfDescriptor d k) v ⌝ }
+    ensures { λ r. ⌜ r ≡ judgeSendWord (now (send .entry)) datalength (SendPart.OfDescriptor d k) v ⌝ }
 {
     if (k == 4) | (k == 6) | (k == 7) | (12 <= k) {
         return Writing::No(Refusal::ReadOnly);
     }
     let words = descriptor_at(send, d);
-    judge_open_word(words, bytes, d, k, v)
+    judge_open_word(words, datalength, d, k, v)
 }
 
 // Word i of Send RAM.
-pub(crate) fn judge_send_word(send: &[u32], bytes: usize, i: u32, v: u32) -> Writing
+pub(crate) fn judge_send_word(send: &[u32], datalength: usize, i: u32, v: u32) -> Writing
     requires { ⌜ length (now send) ≡ 1024 ⌝ }
-    ensures { λ r. ⌜ r ≡ judgeSendWord (now (send .entry)) bytes (sendPart i) v ⌝ }
+    ensures { λ r. ⌜ r ≡ judgeSendWord (now (send .entry)) datalength (sendPart i) v ⌝ }
 {
     let part = send_part(i);
     match part {
-        SendPart::OfDescriptor(d, k) => judge_descriptor_word(send, bytes, d, k, v),
+        SendPart::OfDescriptor(d, k) => judge_descriptor_word(send, datalength, d, k, v),
         SendPart::Direct(at) => Writing::StoresSend(SendStore::DirectWord(at)),
     }
 }
@@ -137,7 +152,9 @@ fn judge_head(receive: &[u32], notices: &[u32], l: ListIndex, v: u32) -> Writing
 fn judge_token(l: ListIndex, v: u32) -> Writing
     ensures { λ r. ⌜ ((receive notices : List ℕ) → r ≡ judgeReceiveWord receive notices (ReceivePart.Token l) v) ⌝ }
 {
-    if (v % 2 == 1) & (v / 2 % 0x8000_0000 == 0) {
+    let enqueue = v % 2 == 1;
+    let token = v / 2 % 0x8000_0000;
+    if enqueue & (token == 0) {
         return Writing::No(Refusal::BadValue);
     }
     Writing::StoresReceive(ReceiveStore::ListToken(l))

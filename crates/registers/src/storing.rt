@@ -37,9 +37,11 @@ fn bit_after(written: bool, bit: u32) -> u32
 fn bits_cleared(v: u32, s: Saved) -> Saved
     ensures { λ r. ⌜ r ≡ bitsCleared v s ⌝ }
 {
+    let int_hi = v / 0x4000_0000 % 2 == 1;
+    let int_lo = v / 0x2000_0000 % 2 == 1;
     let mut saved = s;
-    saved.inthi = bit_after(v / 0x4000_0000 % 2 == 1, s.inthi);
-    saved.intlo = bit_after(v / 0x2000_0000 % 2 == 1, s.intlo);
+    saved.inthi = bit_after(int_hi, s.inthi);
+    saved.intlo = bit_after(int_lo, s.intlo);
     saved
 }
 
@@ -75,8 +77,9 @@ pub(crate) fn number_set(n: Number, v: u32, s: Saved) -> Saved
 fn started(v: u32, d: Descriptor) -> Descriptor
     ensures { λ r. ⌜ r ≡ sending.started v d ⌝ }
 {
+    let msg_size = v % 0x100_0000;
     let mut words = d;
-    words.bytestogo = v % 0x100_0000;
+    words.bytestogo = msg_size;
     words.control1 = v;
     // stalled and done, bits 30 and 29, go to 0.
     words.status2 = d.status2 / 0x8000_0000 * 0x8000_0000 + d.status2 % 0x2000_0000;

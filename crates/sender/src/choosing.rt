@@ -18,7 +18,8 @@ ghost use Rattle.sender.specs.Steps.{Payload, Askable, Choosable};
 pub(crate) fn next_payload(d: Descriptor) -> u32
     ensures { λ r. ⌜ Payload d r ⌝ }
 {
-    if d.control1 / 0x4000_0000 % 2 == 1 {
+    let control_pkt = d.control1 / 0x4000_0000 % 2 == 1;
+    if control_pkt {
         0
     } else if d.bytestogo < 128 {
         d.bytestogo
@@ -31,14 +32,17 @@ pub(crate) fn next_payload(d: Descriptor) -> u32
 pub(crate) fn is_last(d: Descriptor) -> bool
     ensures { λ r. ⌜ r ≡ isLast d ⌝ }
 {
-    (d.control1 / 0x4000_0000 % 2 == 1) | (d.bytestogo <= 128)
+    let control_pkt = d.control1 / 0x4000_0000 % 2 == 1;
+    control_pkt | (d.bytestogo <= 128)
 }
 
 // With notify, the last packet posts a zero notice to note_index.
 pub(crate) fn send_posting(d: Descriptor) -> Posting
     ensures { λ r. ⌜ r ≡ sendPosting d ⌝ }
 {
-    if !(is_last(d) & (d.control1 / 0x2000_0000 % 2 == 1)) {
+    let notify = d.control1 / 0x2000_0000 % 2 == 1;
+    let note_index = d.address1 % 0x1_0000;
+    if !(is_last(d) & notify) {
         return Posting::Silent;
     }
     let metadata = Metadata {
@@ -53,7 +57,7 @@ pub(crate) fn send_posting(d: Descriptor) -> Posting
         word2: 0,
         metadata,
     };
-    Posting::On(ListIndex(d.address1 % 0x1_0000), notice)
+    Posting::On(ListIndex(note_index), notice)
 }
 
 // "A descriptor is ready if active and any notice its next packet would post can be posted."

@@ -15,9 +15,10 @@ fn next_header(node: u32, d: Descriptor) -> Header
     requires { ⌜ node ≤ 4095 ⌝ }
     ensures { λ r. ⌜ r ≡ nextHeader node d ⌝ }
 {
+    let dst_slot = d.address1 / 0x1_0000 % 0x1_0000;
     Header {
         address0: d.address0,
-        address1: d.address1 / 0x1_0000 % 0x1_0000 * 0x1_0000 + node * 16,
+        address1: dst_slot * 0x1_0000 + node * 16,
         control0: d.control0,
         control1: d.control1 % 0x1000_0000,
     }
@@ -37,9 +38,10 @@ pub(crate) fn next_packet(
     let header = next_header(node, d);
     let metadata = d.metadata;
     let n = choosing::next_payload(d) as usize;
+    let direct_io = d.control1 / 0x8000_0000 % 2 == 1;
     if n == 0 {
         form::from_bytes(room, header, metadata, bytes, 0, 0)
-    } else if d.control1 / 0x8000_0000 % 2 == 1 {
+    } else if direct_io {
         form::from_words(
             room,
             header,

@@ -38,7 +38,8 @@ pub fn judge_send(
     if let Verdict::No(why) = sound::gate(s, send, receive, bytes.len(), notices.len()) {
         return Sending::No(why);
     }
-    if !(s.pcsr0 / 0x4000_0000 % 2 == 1) {
+    let enable = s.pcsr0 / 0x4000_0000 % 2 == 1;
+    if !enable {
         return Sending::No(Refusal::Off);
     }
     if room < 168 {

@@ -21,39 +21,56 @@ ghost use Rattle.sound.specs.Facts.{Sized};
 ghost use Rattle.sound.specs.Gated.{Gated};
 
 // Each memory has its size, by the four lengths.
-pub fn sizes_ok(send: usize, receive: usize, bytes: usize, notices: usize) -> bool
-    ensures { λ r. ⌜ r ≡ sizesOk send receive bytes notices ⌝ }
+pub fn sizes_ok(
+    sendlength: usize,
+    receivelength: usize,
+    datalength: usize,
+    noticelength: usize,
+) -> bool
+    ensures { λ r. ⌜ r ≡ sizesOk sendlength receivelength datalength noticelength ⌝ }
 {
-    (send == 1024)
-        & (receive == 2048)
-        & (bytes <= 32768)
-        & (8 <= notices)
-        & (notices <= 2048)
-        & (notices % 8 == 0)
+    (sendlength == 1024)
+        & (receivelength == 2048)
+        & (datalength <= 32768)
+        & (8 <= noticelength)
+        & (noticelength <= 2048)
+        & (noticelength % 8 == 0)
 }
 
 // The machine is sound. The lists are scanned only once the queues are in range, so that no scan is longer than a queue.
-pub fn sound_ok(s: Saved, send: &[u32], receive: &[u32], bytes: usize, notices: usize) -> bool
-    requires { ⌜ Sized (length (now send)) (length (now receive)) bytes notices ⌝ }
-    ensures { λ r. ⌜ r ≡ soundOk s (now (send .entry)) (now (receive .entry)) bytes notices ⌝ }
+pub fn sound_ok(
+    s: Saved,
+    send: &[u32],
+    receive: &[u32],
+    datalength: usize,
+    noticelength: usize,
+) -> bool
+    requires { ⌜ Sized (length (now send)) (length (now receive)) datalength noticelength ⌝ }
+    ensures { λ r. ⌜ r ≡ soundOk s (now (send .entry)) (now (receive .entry)) datalength noticelength ⌝ }
 {
     if !(registers::registers_ok(s) & registers::queues_ok(s)) {
         return false;
     }
     let nbqr = s.nbqr;
-    lists::lists_ok(receive, notices)
-        & lists::waiting_ok(receive, nbqr, notices)
-        & descriptors::descriptors_ok(send, bytes)
+    lists::lists_ok(receive, noticelength)
+        & lists::waiting_ok(receive, nbqr, noticelength)
+        & descriptors::descriptors_ok(send, datalength)
 }
 
 // The first two rows of every call's refusals: sizes, unsound; or the call goes on.
-pub fn gate(s: Saved, send: &[u32], receive: &[u32], bytes: usize, notices: usize) -> Verdict
-    ensures { λ r. ⌜ Gated s (now (send .entry)) (now (receive .entry)) bytes notices r ⌝ }
+pub fn gate(
+    s: Saved,
+    send: &[u32],
+    receive: &[u32],
+    datalength: usize,
+    noticelength: usize,
+) -> Verdict
+    ensures { λ r. ⌜ Gated s (now (send .entry)) (now (receive .entry)) datalength noticelength r ⌝ }
 {
-    if !sizes_ok(send.len(), receive.len(), bytes, notices) {
+    if !sizes_ok(send.len(), receive.len(), datalength, noticelength) {
         return Verdict::No(Refusal::Sizes);
     }
-    if !sound_ok(s, send, receive, bytes, notices) {
+    if !sound_ok(s, send, receive, datalength, noticelength) {
         return Verdict::No(Refusal::Unsound);
     }
     Verdict::Go

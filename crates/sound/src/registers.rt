@@ -11,7 +11,9 @@ ghost use Rattle.rules.specs.Sound.{registersOk, queueOk, queuesOk};
 pub fn pcsr0_ok(w: u32) -> bool
     ensures { λ r. ⌜ r ≡ pcsr0Ok w ⌝ }
 {
-    (w / 0x10_0000 % 0x400 == 0) & (w % 0x1_0000 <= 4095)
+    let reserved = w / 0x10_0000 % 0x400;
+    let node = w % 0x1_0000;
+    (reserved == 0) & (node <= 4095)
 }
 
 // A pointer into a RAM of so many words.
@@ -26,7 +28,8 @@ pub fn pointer_ok(words: u32, p: u32) -> bool
 pub(crate) fn registers_ok(s: Saved) -> bool
     ensures { λ r. ⌜ r ≡ registersOk s ⌝ }
 {
-    !(s.pcsr0 / 0x8000_0000 % 2 == 1)
+    let reset = s.pcsr0 / 0x8000_0000 % 2 == 1;
+    !reset
         & pcsr0_ok(s.pcsr0)
         & (s.inthi <= 1)
         & (s.intlo <= 1)

@@ -37,7 +37,7 @@ pub struct Answered {
 }
 
 // The first `filled` bytes of the input are at hand, the last n of them came now.
-pub fn answer(
+pub(crate) fn answer(
     s: Saved,
     send: &mut [u32],
     receive: &mut [u32],

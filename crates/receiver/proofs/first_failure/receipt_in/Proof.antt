@@ -16,26 +16,26 @@ receipt-in-spec =
     (λ c κs. search needs)
     (λ c.
     let at = c .before .before in
-    let asked = at .before .before .before .before .before .pre in
+    let asked = at .before .before .before .before .before .before .before .before .pre in
     rw (← asked .fields, ← at .slot-at .ensures) (search (judging, asked) depth 24))
     (λ c.
-    let at = c .before .before .before .before .before in
-    let asked = at .before .before .before .before .before .pre in
+    let at = c .before .before .before in
+    let asked = at .before .before .before .before .before .before .before .before .pre in
     rw (← asked .fields, ← at .slot-at .ensures) (search (judging, asked) depth 24))
     (λ c.
-    let at = c .before .before .before .before .before .before .before in
-    let asked = at .before .before .before .before .before .pre in
+    let at = c .before .before .before .before in
+    let asked = at .before .before .before .before .before .before .before .before .pre in
     rw (← asked .fields, ← at .slot-at .ensures) (search (judging, asked) depth 24))
     (λ c κs.
-    let valid = c .before .before .before .before .before in
-    data-asks _ _ (valid .before .before .before .before .before .before .before .pre) (flag-yes (valid .before .slot-ok .ensures) (valid .if1 .left)))
+    let valid = c .before .before in
+    data-asks _ _ (valid .before .before .before .before .before .before .before .before .before .before .pre) (flag-yes (valid .before .slot-ok .ensures) (valid .if1 .left)))
     (λ c.
     let plain = c .before in
-    let same = plain .before .before in
-    let valid = same .before .before .before in
+    let same = plain .before in
+    let valid = same .before in
     let at = valid .before .before in
     decided _ _ _ _ _ _
-    (at .before .before .before .before .before .pre)
+    (at .before .before .before .before .before .before .before .before .pre)
     (at .slot-at .ensures)
     (flag-yes (valid .before .slot-ok .ensures) (valid .if1 .left))
     (same .if2 .left)

@@ -13,6 +13,6 @@ completes-spec =
     (λ c κs. search needs)
     (λ c κs. search needs)
     (λ c.
-    let zero = c .before .before in
+    let zero = c .before in
     let new = zero .before .new-bytes-to-go in
     rw (zero .is-zero .ensures, read-back (new .result) (new .ok), new .ensures)))

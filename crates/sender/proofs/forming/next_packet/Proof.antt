@@ -1,6 +1,5 @@
 -- `sender::forming::next_packet` meets its contract. Assumes nothing.
 use borrow.Author.Needs.{needs}
-use borrow.Author.Tests.{eq-eqb, ne-eqb}
 use Rattle.sender.proofs.Steps.{formed-empty, formed-direct, formed-data, direct-asks, data-asks}
 use Rattle.sender.proofs.forming.next_packet.Statement.{statement}
 use Rattle.sender.proofs.forming.next_packet.Tie as tie
@@ -14,12 +13,12 @@ next-packet-spec =
     (λ c. search needs)
     (λ c κs. search needs)
     (λ c. search needs)
-    (λ c κs. search (direct-asks, eq-eqb))
+    (λ c κs. search direct-asks)
     (λ c. search needs)
-    (λ c κs. search (data-asks, ne-eqb))
+    (λ c κs. search data-asks)
     (λ c. search needs)
     (λ c. search formed-empty)
     (λ c. search needs)
-    (λ c. search (formed-direct, eq-eqb))
+    (λ c. search formed-direct)
     (λ c. search needs)
-    (λ c. search (formed-data, ne-eqb)))
+    (λ c. search formed-data))

@@ -11,4 +11,4 @@ go-rule-spec =
     (tie.spec
     (λ c κs. search needs)
     (λ c κs. search needs)
-    (λ c. rw (c .message-size-ok .ensures, c .before .before .before .before .meta-ok .ensures)))
+    (λ c. rw (c .message-size-ok .ensures, c .before .meta-ok .ensures)))
