@@ -100,8 +100,8 @@ fn read(register: u32, value: u32, known: &Known) -> String {
         Some(Register::Pointer(ram)) if value < ram.bytes() => {
             format!("it points at {}", place(ram, value).name())
         }
-        Some(Register::Taken) => format!("{value} packets were taken since the reset"),
-        Some(Register::Faulted) => format!("{value} packets were faulted since the reset"),
+        Some(Register::Taken) => format!("packets taken since the reset: {value}"),
+        Some(Register::Faulted) => format!("packets faulted since the reset: {value}"),
         _ => value_in_words(register, value, known).unwrap_or_else(|| value.to_string()),
     }
 }
