@@ -35,7 +35,7 @@ fn store(page: &mut [u8], words: &[u32])
 }
 
 // Reads as many words as there is room for, by way of a page; false where the input ends before, or the page is smaller.
-pub fn read_words(words: &mut [u32], page: &mut [u8]) -> bool {
+pub(crate) fn read_words(words: &mut [u32], page: &mut [u8]) -> bool {
     if words.len() > page.len() / 4 {
         return false;
     }
@@ -46,7 +46,7 @@ pub fn read_words(words: &mut [u32], page: &mut [u8]) -> bool {
 }
 
 // Writes words, by way of a page; false where the output takes no more, or the page is smaller.
-pub fn write_words(words: &[u32], page: &mut [u8]) -> bool {
+pub(crate) fn write_words(words: &[u32], page: &mut [u8]) -> bool {
     if words.len() > page.len() / 4 {
         return false;
     }
@@ -62,7 +62,7 @@ fn padding(n: usize) -> usize
 }
 
 // Reads as many bytes as there is room for, and the zeros behind them; false where the input ends before.
-pub fn read_bytes(bytes: &mut [u8]) -> bool {
+pub(crate) fn read_bytes(bytes: &mut [u8]) -> bool {
     let mut zeros = [0u8; 3];
     let n = padding(bytes.len());
     let got = io::read_full(STDIN_FILENO, bytes);
@@ -70,7 +70,7 @@ pub fn read_bytes(bytes: &mut [u8]) -> bool {
 }
 
 // Writes bytes, and the zeros behind them; false where the output takes no more.
-pub fn write_bytes(bytes: &[u8]) -> bool {
+pub(crate) fn write_bytes(bytes: &[u8]) -> bool {
     let zeros = [0u8; 3];
     let n = padding(bytes.len());
     io::write_all(STDOUT_FILENO, bytes) && io::write_all(STDOUT_FILENO, &zeros[..n])

@@ -1,7 +1,7 @@
 // The call that a case says.
 
 // By its kind: write, read, receive, send, take; any other is an unknown call. The answer's three words and the reply's number.
-pub fn call(
+pub(crate) fn call(
     kind: u32,
     a: u32,
     b: u32,

@@ -74,7 +74,7 @@ fn respond(
 }
 
 // Whether it was whole, and could be written.
-pub fn answer_case(
+pub(crate) fn answer_case(
     kind: u32,
     a: u32,
     b: u32,

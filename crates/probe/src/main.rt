@@ -12,8 +12,8 @@ fn size(n: u32) -> usize {
     n as usize
 }
 
-// The case of that head is answered in parts of the rooms; false where one is beyond its room.
-fn answer_in_parts(
+// The case of that head is answered in parts of the memories; false where one is beyond its memory.
+fn answer_in_memories(
     head: &[u32; 9],
     send: &mut [u32],
     receive: &mut [u32],
@@ -39,14 +39,6 @@ fn answer_in_parts(
     if words > notices.len() {
         return false;
     }
-    let packets = size(head[7]);
-    if packets > packet.len() {
-        return false;
-    }
-    let rooms = size(head[8]);
-    if rooms > room.len() {
-        return false;
-    }
     answer_case(
         head[0],
         head[1],
@@ -55,6 +47,37 @@ fn answer_in_parts(
         &mut receive[..receives],
         &mut data[..bytes],
         &mut notices[..words],
+        packet,
+        room,
+        page,
+    )
+}
+
+// The same in parts of the two rooms too.
+fn answer_in_parts(
+    head: &[u32; 9],
+    send: &mut [u32],
+    receive: &mut [u32],
+    data: &mut [u8],
+    notices: &mut [u32],
+    packet: &mut [u8],
+    room: &mut [u32],
+    page: &mut [u8],
+) -> bool {
+    let packets = size(head[7]);
+    if packets > packet.len() {
+        return false;
+    }
+    let rooms = size(head[8]);
+    if rooms > room.len() {
+        return false;
+    }
+    answer_in_memories(
+        head,
+        send,
+        receive,
+        data,
+        notices,
         &mut packet[..packets],
         &mut room[..rooms],
         page,
