@@ -1,22 +1,27 @@
 -- The words of document 01 by the widths that it gives, top field first: what the other files read of each stands where these widths put it,
 -- and what they make or change is packed so. Assumes nothing.
 use mathlib.Core.Path.{_≡_}
+use Rattle.ground.specs.Bytes.{wordAt}
+use Rattle.ground.specs.Choice.{pick}
 use Rattle.ground.specs.Field.{field, bit, pack, unpack}
 use Prim.Native.Nat.{_≤_}
-use Rattle.rules.specs.Types.{ℕ, _+_, Bool, not, List, [], _∷_}
+use Rattle.rules.specs.Types.{ℕ, _+_, not, List, [], _∷_}
 use Rattle.rules.specs.declared.Saved.{Saved}
 use Rattle.rules.specs.declared.SlotIndex.{SlotIndex}
-use Rattle.rules.specs.declared.Metadata.{Metadata}
 use Rattle.rules.specs.declared.Descriptor.{Descriptor}
-use Rattle.rules.specs.Words.{dstNode, dstSlot, noteIndex, srcNode, zeroLow, slotAndSource, usesMsgSize, usesMsgOffset, isAckPkt, reservedBit, incarnation, offset, isDirectIo, isControlPkt, notifies, goes, zeroTop, metaFlag, metaCount, msgSize, metaPart, most24}
+use Rattle.rules.specs.declared.Slot.{Slot}
+use Rattle.rules.specs.declared.Header.{Header}
+use Rattle.rules.specs.Words.{dstNode, dstSlot, noteIndex, srcNode, zeroLow, slotAndSource, usesMsgSize, usesMsgOffset, isAckPkt, reservedBit, incarnation, offset, isDirectIo, isControlPkt, notifies, goes, zeroTop, metaFlag, metaCount, msgSize, metaPart, most24, checkHalf}
+use Rattle.rules.specs.Memory.{noMetadata}
 use Rattle.rules.specs.Saved.{resets, enables, reservedBits, ownIncarnation, ownNode, withoutReset}
 use Rattle.rules.specs.Queues.{isEmpty, hasRoom}
 use Rattle.rules.specs.Registers.{pcsr1, intHi, intLo}
 use Rattle.rules.specs.Sending.{isDone, withStalled, withoutStalled, withDone, withoutStalledAndDone, nextPayload, nextHeader, afterPacket}
 use Rattle.rules.specs.Checksum.{checkOf}
-use Rattle.rules.specs.Packet.{checkWord}
+use Rattle.rules.specs.Packet.{checkWord, packetOf}
 use Rattle.rules.specs.Slots.{slotNoteIndex, validBit, indirectBit, doesAcks, slotNotifies, slotReserve, ackNoteIndex}
-use Rattle.rules.specs.Notices.{token, enqueues, message, fault}
+use Rattle.rules.specs.Notices.{token, enqueues}
+use Rattle.rules.specs.Receipt.{messageNotice, ackNotice, faultNotice}
 
 pub record Layouts : Type 0 where
   -- "PCSR0: reset 1, enable 1, reserved 10, incarnation 4, node 16"
@@ -43,7 +48,8 @@ pub record Layouts : Type 0 where
   -- "3 is zero 4, meta flag 1, meta_len 3, msg_size 24"
   pub word3 : (w : ℕ) → unpack (4 ∷ 1 ∷ 3 ∷ 24 ∷ []) w ≡ zeroTop w ∷ bit (metaFlag w) ∷ metaCount w ∷ msgSize w ∷ []
   pub word3-made : (node : ℕ) (d : Descriptor) → nextHeader node d .control1 ≡ pack (4 ∷ 1 ∷ 3 ∷ 24 ∷ []) (0 ∷ bit (metaFlag (d .control1)) ∷ metaCount (d .control1) ∷ msgSize (d .control1) ∷ [])
-  -- "4 is header check 16, zero 16"; "body check 16 and zero 16"
+  -- "4 is header check 16, zero 16", as it is read; "body check 16 and zero 16" too, as they are made
+  pub word4 : (bytes : List ℕ) → unpack (16 ∷ 16 ∷ []) (wordAt bytes 16) ≡ checkHalf (wordAt bytes 16) ∷ packetOf bytes .zerohalf ∷ []
   pub word4-made : (covered : List ℕ) → checkWord covered ≡ pack (16 ∷ 16 ∷ []) (checkOf covered ∷ 0 ∷ [])
   -- "status2 (busy, stalled, done)"; what is set or cleared leaves the rest, busy too
   pub status2 : (w : ℕ) → unpack (1 ∷ 1 ∷ 1 ∷ 29 ∷ []) w ≡ field 31 1 w ∷ field 30 1 w ∷ bit (isDone w) ∷ field 0 29 w ∷ []
@@ -59,11 +65,17 @@ pub record Layouts : Type 0 where
   pub slot-word7 : (w : ℕ) → metaPart w ≡ pack (4 ∷ 1 ∷ 3 ∷ 24 ∷ []) (0 ∷ bit (metaFlag w) ∷ metaCount w ∷ 0 ∷ [])
   -- "the token (31 bits)" above enqueue
   pub token-word : (w : ℕ) → unpack (31 ∷ 1 ∷ []) w ≡ token w ∷ bit (enqueues w) ∷ []
-  -- "word 0 slot 16, src_node 12, zero 4; word 1 zero 2, ack 1, zero 1, incarnation 4, offset 24"
-  pub message-word0 : (i : SlotIndex) (source : ℕ) (ack : Bool) (inc off w : ℕ) (m : Metadata) → message i source ack inc off w m .word0 ≡ pack (16 ∷ 12 ∷ 4 ∷ []) (i .0 ∷ source ∷ 0 ∷ [])
-  pub message-word1 : (i : SlotIndex) (source : ℕ) (ack : Bool) (inc off w : ℕ) (m : Metadata) → message i source ack inc off w m .word1 ≡ pack (2 ∷ 1 ∷ 1 ∷ 4 ∷ 24 ∷ []) (0 ∷ bit ack ∷ 0 ∷ inc ∷ off ∷ [])
-  -- "word 2 as packet word 3", of a slot's word 7 and its msg_size
-  pub message-word2 : (w size : ℕ) → metaPart w + size ≡ pack (4 ∷ 1 ∷ 3 ∷ 24 ∷ []) (0 ∷ bit (metaFlag w) ∷ metaCount w ∷ size ∷ [])
-  -- "slot 16, status 16; 0; dst_node 16, src_node 16"
-  pub fault-word0 : (slot status node source : ℕ) → fault slot status node source .word0 ≡ pack (16 ∷ 16 ∷ []) (slot ∷ status ∷ [])
-  pub fault-word2 : (slot status node source : ℕ) → fault slot status node source .word2 ≡ pack (16 ∷ 16 ∷ []) (node ∷ source ∷ [])
+  -- "Message: word 0 slot 16, src_node 12, zero 4; word 1 zero 2, ack 1, zero 1, incarnation 4, offset 24; word 2 as packet word 3": the packet's
+  -- source and incarnation; "Offset, msg_size and metadata are the slot's", whose word 7 has only flag and length
+  pub message-word0 : (i : SlotIndex) (h : Header) (v : Slot) → messageNotice i h v .word0 ≡ pack (16 ∷ 12 ∷ 4 ∷ []) (i .0 ∷ srcNode (h .address1) ∷ 0 ∷ [])
+  pub message-word1 : (i : SlotIndex) (h : Header) (v : Slot) → messageNotice i h v .word1 ≡ pack (2 ∷ 1 ∷ 1 ∷ 4 ∷ 24 ∷ []) (0 ∷ 0 ∷ 0 ∷ incarnation (h .control0) ∷ v .msgoffset ∷ [])
+  pub message-word2 : (i : SlotIndex) (h : Header) (v : Slot) → v .metaword ≡ metaPart (v .metaword) → messageNotice i h v .word2 ≡ pack (4 ∷ 1 ∷ 3 ∷ 24 ∷ []) (0 ∷ bit (metaFlag (v .metaword)) ∷ metaCount (v .metaword) ∷ v .msgsize ∷ [])
+  pub message-metadata : (i : SlotIndex) (h : Header) (v : Slot) → messageNotice i h v .metadata ≡ pick (metaFlag (v .metaword)) (v .metadata) noMetadata
+  -- "an ack packet gives its own": offset, flag, length and size of the packet
+  pub ack-word0 : (i : SlotIndex) (h : Header) → ackNotice i h .word0 ≡ pack (16 ∷ 12 ∷ 4 ∷ []) (i .0 ∷ srcNode (h .address1) ∷ 0 ∷ [])
+  pub ack-word1 : (i : SlotIndex) (h : Header) → ackNotice i h .word1 ≡ pack (2 ∷ 1 ∷ 1 ∷ 4 ∷ 24 ∷ []) (0 ∷ 1 ∷ 0 ∷ incarnation (h .control0) ∷ offset (h .control0) ∷ [])
+  pub ack-word2 : (i : SlotIndex) (h : Header) → unpack (4 ∷ 1 ∷ 3 ∷ 24 ∷ []) (ackNotice i h .word2) ≡ zeroTop (h .control1) ∷ bit (metaFlag (h .control1)) ∷ metaCount (h .control1) ∷ msgSize (h .control1) ∷ []
+  -- "Fault, on list 0: slot 16, status 16; 0; dst_node 16, src_node 16"
+  pub fault-word0 : (h : Header) (status : ℕ) → faultNotice h status .word0 ≡ pack (16 ∷ 16 ∷ []) (dstSlot (h .address1) ∷ status ∷ [])
+  pub fault-word1 : (h : Header) (status : ℕ) → faultNotice h status .word1 ≡ 0
+  pub fault-word2 : (h : Header) (status : ℕ) → faultNotice h status .word2 ≡ pack (16 ∷ 16 ∷ []) (dstNode (h .address0) ∷ srcNode (h .address1) ∷ [])

@@ -1,10 +1,9 @@
 -- "Packet": its layout, formed and read back, its length, and which packets are well formed. Assumes nothing.
 use Rattle.ground.specs.Bytes.{wordAt, toBytes}
 use Rattle.ground.specs.Choice.{pick}
-use Rattle.ground.specs.Field.{field}
 use Rattle.ground.specs.Lists.{part}
 use Rattle.rules.specs.Types.{ℕ, _-_, _*_, _%_, _^_, Bool, not, _&&_, _||_, List, [], _∷_, _++_, eqb, leb, length, take, Metadata, Header, Packet}
-use Rattle.rules.specs.Words.{zeroLow, zeroTop, isAckPkt, reservedBit, metaFlag, metaOk}
+use Rattle.rules.specs.Words.{zeroLow, zeroTop, isAckPkt, reservedBit, metaFlag, metaOk, checkHalf, zeroHalf}
 use Rattle.rules.specs.Memory.{noMetadata, metadataWords}
 use Rattle.rules.specs.Checksum.{checkOf}
 
@@ -88,7 +87,7 @@ unfoldable pub packetOf : List ℕ → Packet
 packetOf bytes =
     record {
       header = headerOf bytes;
-      zerohalf = field 0 16 (wordAt bytes 16);
+      zerohalf = zeroHalf (wordAt bytes 16);
       metadata = metadataOf bytes;
       length = length bytes;
       payloadlength = payloadLength bytes;
@@ -115,7 +114,7 @@ headerCovered from bytes = take 16 bytes ++ part plainStart (from - plainStart) 
 
 -- "header check", word 4's upper half.
 unfoldable pub headerChecks : List ℕ → Bool
-headerChecks bytes = eqb (field 16 16 (wordAt bytes 16)) (checkOf (headerCovered (payloadFrom bytes) bytes))
+headerChecks bytes = eqb (checkHalf (wordAt bytes 16)) (checkOf (headerCovered (payloadFrom bytes) bytes))
 
 -- "zero and reserved fields, meta_len as meta_cnt, ack is 20 bytes (H)".
 unfoldable pub fieldsOk : Packet → Bool

@@ -106,3 +106,13 @@ metaPart w = field 24 4 w * 2 ^ 24
 -- "meta_cnt at most 4, and 0 without meta_data"; "meta_len as meta_cnt".
 abbrev pub metaOk : ℕ → Bool
 metaOk w = leb (metaCount w) 4 && (metaFlag w || eqb (metaCount w) 0)
+
+-- ---- a check's word, a packet's word 4 and the word behind its payload: check 16 (31-16), zero 16 (15-0)
+
+-- "header check 16".
+abbrev pub checkHalf : ℕ → ℕ
+checkHalf w = field 16 16 w
+
+-- "zero 16".
+abbrev pub zeroHalf : ℕ → ℕ
+zeroHalf w = field 0 16 w

@@ -1,15 +1,17 @@
 -- `bench::layouts` meets its contract: each word is read and made by document 01's widths. Assumes nothing.
-use mathlib.Core.Path.{_≡_, refl}
+use mathlib.Core.Path.{_≡_, refl, ap, _∙_}
 use mathlib.Core.List.{[], _∷_}
 use Prim.Native.Nat.{ℕ, _+_, _≤_}
 use native.Mathlib.Omega.{arith}
-use Rattle.ground.specs.Field.{field, unpack, without}
+use Rattle.ground.specs.Field.{field, bit, pack, unpack, without}
 use Rattle.ground.proofs.Field.{bit-flag, with-same, with-above, with-below, without-same, without-above, without-below}
 use Rattle.rules.specs.Registers.{pcsr1}
 use Rattle.rules.specs.declared.Descriptor.{Descriptor}
-use Rattle.rules.specs.Words.{offset, msgSize, most24}
+use Rattle.rules.specs.Words.{offset, metaFlag, metaCount, msgSize, metaPart, most24}
 use Rattle.rules.specs.Saved.{withoutReset}
 use Rattle.rules.specs.Sending.{nextPayload, nextHeader, afterPacket}
+use Rattle.rules.specs.Packet.{packetOf}
+use Rattle.rules.specs.Receipt.{messageNotice, ackNotice, faultNotice}
 use Rattle.bench.proofs.layouts.Statement.{statement}
 use Rattle.bench.proofs.layouts.Tie as tie
 
@@ -28,8 +30,12 @@ after0 w n h =
     let low : field 0 24 (without 30 2 w + n) ≡ offset w + n = omega arith in
     λ i. top i ∷ rest i ∷ low i ∷ []
 
+-- A slot's word 7 and a size make a word as packet word 3.
+flag-length-size : (w size : ℕ) → metaPart w + size ≡ pack (4 ∷ 1 ∷ 3 ∷ 24 ∷ []) (0 ∷ bit (metaFlag w) ∷ metaCount w ∷ size ∷ [])
+flag-length-size w size = rw (bit-flag 27 w) (omega arith)
+
 returns : tie.Need-returns
-unfolding pcsr1 nextHeader afterPacket
+unfolding pcsr1 nextHeader afterPacket packetOf messageNotice ackNotice faultNotice
 returns c =
     record {
       word-pcsr0 = λ w. rw (bit-flag 31 w, bit-flag 30 w);
@@ -46,6 +52,7 @@ returns c =
       control1-after = λ d. rw (without-above 24 4 28 4 (d .control1) (omega arith), without-same 24 4 (d .control1), without-below 24 4 0 24 (d .control1) (omega arith));
       word3 = λ w. rw (bit-flag 27 w);
       word3-made = λ node d. rw (bit-flag 27 (d .control1)) (omega arith);
+      word4 = λ bytes. refl;
       word4-made = λ covered. omega arith;
       status2 = λ w. rw (bit-flag 29 w);
       stalled-set = λ w. rw (with-above 30 1 31 1 1 w (omega arith) (omega arith), with-same 30 1 1 w (omega arith), with-below 30 1 0 30 1 w (omega arith));
@@ -56,11 +63,16 @@ returns c =
       slot-word6 = λ w. refl;
       slot-word7 = λ w. rw (bit-flag 27 w) (omega arith);
       token-word = λ w. rw (bit-flag 0 w);
-      message-word0 = λ i source ack inc off w m. omega arith;
-      message-word1 = λ i source ack inc off w m. omega arith;
-      message-word2 = λ w size. rw (bit-flag 27 w) (omega arith);
-      fault-word0 = λ slot status node source. omega arith;
-      fault-word2 = λ slot status node source. omega arith;
+      message-word0 = λ i h v. omega arith;
+      message-word1 = λ i h v. omega arith;
+      message-word2 = λ i h v e. ap (λ (w : ℕ). w + v .msgsize) e ∙ flag-length-size (v .metaword) (v .msgsize);
+      message-metadata = λ i h v. refl;
+      ack-word0 = λ i h. omega arith;
+      ack-word1 = λ i h. omega arith;
+      ack-word2 = λ i h. rw (bit-flag 27 (h .control1));
+      fault-word0 = λ h status. omega arith;
+      fault-word1 = λ h status. refl;
+      fault-word2 = λ h status. omega arith;
     }
 
 pub layouts-spec : {M : Type 1} → statement M
