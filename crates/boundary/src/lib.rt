@@ -13,4 +13,6 @@ pub use receive::valmthosh_receive;
 pub use send::valmthosh_send;
 pub use take::valmthosh_take;
 pub use unknown::unknown_call;
+pub use words::load;
+pub use words::store;
 pub use write::valmthosh_write;

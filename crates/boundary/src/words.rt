@@ -7,7 +7,7 @@ ghost use lib.ListN.{length};
 ghost use Rattle.boundary.specs.Boundary.{savedSize, savedOf, wordsOf, Writable, Ends};
 
 // The state that 15 words say.
-pub(crate) fn load(w: &[u32]) -> Saved
+pub fn load(w: &[u32]) -> Saved
     requires { ⌜ length (now w) ≡ savedSize ⌝ }
     ensures { λ r. ⌜ r ≡ savedOf (now (w .entry)) ⌝ }
 {
@@ -37,7 +37,7 @@ pub(crate) fn load(w: &[u32]) -> Saved
 }
 
 // A state into 15 words.
-fn store(w: &mut [u32], s: Saved)
+pub fn store(w: &mut [u32], s: Saved)
     requires { ⌜ length (now w) ≡ savedSize ⌝ }
     ensures { λ _. ⌜ now (w .exit) ≡ wordsOf s ⌝ }
 {

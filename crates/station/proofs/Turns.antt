@@ -1,98 +1,124 @@
--- Turns after one another: what a read adds, and the lines that they write together. Assumes nothing.
+-- Turns after one another: what a turn makes of the memories, and the lines that all turns write. Assumes nothing.
 use Prim.Native.Nat.{ℕ, _+_, _-_, _%_, _<_, _≤_}
-use mathlib.Core.Bool.{Bool, true, not, _&&_}
 use mathlib.Core.Path.{_≡_, refl, sym, ap, _∙_}
 use mathlib.Core.List.{List, [], _++_, append-assoc, append-nil}
 use native.Mathlib.Omega.{arith}
-use borrow.Author.Tests.{eqb-false, not-true}
-use lib.Dec.{eqb}
-use lib.ListN.{length, take, drop, replicate, take-append-drop, drop-of-length-le}
-use lib.Seq.{length-take-le, take-length, take-add}
-use Rattle.ground.specs.Lists.{part}
-use Rattle.ground.proofs.Lists.{length-part}
-use Rattle.ground.proofs.Tests.{and-right}
+use lib.ListN.{length, take, drop, length-append, take-append-drop, drop-of-length-le}
+use lib.Seq.{sets, sets-eq, length-take-le, take-length, take-at}
+use Rattle.rules.specs.declared.Saved.{Saved}
 use Rattle.rules.specs.Memory.{Machine, machine}
+use Rattle.rules.specs.Saved.{resetSaved}
+use Rattle.rules.specs.Registers.{pcsr0Number}
+use Rattle.rules.specs.Calls.{writes, perform}
 use Rattle.rules.specs.Station.{recordSize, zeroMachine, firstMachine, station}
+use Rattle.boundary.specs.Boundary.{savedOf, wordsOf}
 use Rattle.records.specs.Records.{Opens}
 use Rattle.records.proofs.Rows.{in-parts}
 use Rattle.station.specs.declared.answering.Answered.{Answered}
-use Rattle.station.specs.declared.Left.{Left}
-use Rattle.station.specs.Turns.{answeredTo, answeredOf, linesOf, Answers, Turned, SoFar, InTurns}
+use Rattle.station.specs.Turns.{answeredTo, answeredOf, linesOf, Answers, Held, held, Zeros, opened, Begun, goneOn, linesNow, Reads, none, _▸_, read, after, written, Going, Turned, InTurns}
 use Rattle.station.proofs.Hand.{at-the-end, before-the-end}
 
--- ---- a turn
+-- ---- the lines of a turn
 
--- What was read stands behind what waited.
-pub turned : {m : Machine} {after out : List ℕ} {a : Answered} {more : Bool} {send receive bytes notices : List ℕ}
-    → (before input : List ℕ) (kept n : ℕ)
-    → (kept + n ≤ length input) × (take kept input ≡ take kept before)
-    → Answers m n (take (kept + n) input) a send receive bytes notices after out
-    → (more ≡ true → 0 < n) → Turned m (take kept before) (record { answered = a; more = more }) send receive bytes notices after out
-turned {m} {after} {out} {a} {more} {send} {receive} {bytes} {notices} before input kept n r s g =
-    let came : List ℕ = part kept n input in
-    let long : length came ≡ n = length-part kept n input (r .0) in
-    let hand : take (kept + n) input ≡ take kept before ++ came = take-add kept n input ∙ ap (λ (l : List ℕ). l ++ came) (r .1) in
-    let there : Answers m (length came) (take kept before ++ came) a send receive bytes notices after out = rw (long, ← hand) s in
-    record { came = came; answers = there; more = λ e. omega (arith, g e) }
+module _ (h : Held) (came : List ℕ) where
+  -- Some bytes came: whole records were answered, and the others go on from there.
+  whole-lines : 0 < length came → (later : List ℕ)
+      → linesOf (h .machine) (h .waits ++ (came ++ later)) ≡ linesNow h came ++ linesOf (goneOn h came .machine) (goneOn h came .waits ++ later)
+  unfolding goneOn linesNow
+  whole-lines some later =
+      let hand : List ℕ = h .waits ++ came in
+      let k : ℕ = answeredTo (length came) (length hand) in
+      let cut : length hand - length hand % recordSize ≡ k = before-the-end (length came) (length hand) (λ z. absurd (omega arith)) in
+      let long : length (take k hand) ≡ k = length-take-le k hand (omega arith) in
+      let same : h .waits ++ (came ++ later) ≡ take k hand ++ (drop k hand ++ later) =
+      sym (append-assoc (h .waits) came later)
+      ∙ ap (λ (l : List ℕ). l ++ later) (sym (take-append-drop k hand))
+      ∙ append-assoc (take k hand) (drop k hand) later in
+      ap (linesOf (h .machine)) same ∙ in-parts .lines (h .machine) (take k hand) (drop k hand ++ later) (omega arith)
 
--- There is more where some came, whatever the write said.
-pub some-came : (written : Bool) (n : ℕ) → (written && not (eqb n 0)) ≡ true → 0 < n
-some-came written n e = let some : n ≡ 0 → ⊥ = eqb-false n 0 (not-true (eqb n 0) (and-right written (not (eqb n 0)) e)) in omega arith
+-- None came: all that waited was answered.
+last-lines : (h : Held) → linesNow h [] ≡ linesOf (h .machine) (h .waits)
+unfolding linesNow
+last-lines h =
+    let hand : List ℕ = h .waits ++ [] in
+    let all : take (length hand) hand ≡ answeredOf 0 hand = ap (λ (k : ℕ). take k hand) (at-the-end 0 (length hand) refl) in
+    ap (linesOf (h .machine)) (sym all ∙ take-length hand ∙ append-nil (h .waits))
 
 -- ---- all turns
 
-module _ {m : Machine} {waited : List ℕ} {t : Left} {send receive bytes notices input out : List ℕ}
-    (d : Turned m waited t send receive bytes notices input out) where
-  -- Some bytes came: whole records were answered, and the others go on from there.
-  whole-lines : 0 < length (d .came) → (later : List ℕ)
-      → linesOf m (waited ++ (d .came ++ later))
-      ≡ take (t .answered .next) out ++ linesOf (machine (t .answered .saved) send receive bytes notices) (take (t .answered .kept) input ++ later)
-  whole-lines some later =
-      let hand : List ℕ = waited ++ d .came in
-      let k : ℕ = answeredTo (length (d .came)) (length hand) in
-      let cut : length hand - length hand % recordSize ≡ k = before-the-end (length (d .came)) (length hand) (λ z. absurd (omega arith)) in
-      let long : length (take k hand) ≡ k = length-take-le k hand (omega arith) in
-      let same : waited ++ (d .came ++ later) ≡ take k hand ++ (drop k hand ++ later) =
-      sym (append-assoc waited (d .came) later)
-      ∙ ap (λ (l : List ℕ). l ++ later) (sym (take-append-drop k hand))
-      ∙ append-assoc (take k hand) (drop k hand) later in
-      ap (linesOf m) same
-      ∙ in-parts .lines m (take k hand) (drop k hand ++ later) (omega arith)
-      ∙ rw (d .answers .lines, d .answers .state, d .answers .waits) refl
-
-  -- None came: all that waited was answered.
-  last-lines : length (d .came) ≡ 0 → linesOf m (waited ++ d .came) ≡ take (t .answered .next) out
-  last-lines none =
-      let hand : List ℕ = waited ++ d .came in
-      let all : take (length hand) hand ≡ answeredOf (length (d .came)) hand =
-      ap (λ (k : ℕ). take k hand) (at-the-end (length (d .came)) (length hand) none) in
-      ap (linesOf m) (sym (take-length hand) ∙ all) ∙ sym (d .answers .lines)
+-- Whatever comes later.
+onward : (r : Reads) → Going r → (later : List ℕ) → station (read r ++ later) ≡ written r ++ linesOf (after r .machine) (after r .waits ++ later)
+unfolding station
+onward none g later = refl
+onward (r ▸ came) g later =
+    ap station (append-assoc (read r) came later)
+    ∙ onward r (g .0) (came ++ later)
+    ∙ ap (λ (l : List ℕ). written r ++ l) (whole-lines (after r) came (g .1) later)
+    ∙ sym (append-assoc (written r) _ _)
 
 pub in-turns : InTurns
 in-turns =
     record {
-      more = λ s d some later.
-          ap station (append-assoc (s .read) (d .came) later)
-          ∙ s .onward (d .came ++ later)
-          ∙ ap (λ (l : List ℕ). s .written ++ l) (whole-lines d some later)
-          ∙ sym (append-assoc (s .written) _ _);
-      last = λ s d none.
-          let nothing : d .came ≡ [] = drop-of-length-le (d .came) {i = 0} (omega arith) in
-          ap station (sym (append-nil (s .read)) ∙ ap (λ (l : List ℕ). s .read ++ l) (sym nothing))
-          ∙ s .onward (d .came)
-          ∙ ap (λ (l : List ℕ). s .written ++ l) (last-lines d none);
+      onward = onward;
+      whole = λ r g.
+          ap (λ (l : List ℕ). written r ++ l) (last-lines (after r) ∙ ap (linesOf (after r .machine)) (sym (append-nil (after r .waits))))
+          ∙ sym (onward r g [])
+          ∙ ap station (append-nil (read r));
     }
 
--- ---- so far
+-- ---- a turn
 
--- The opening reset over memories of zeros: nothing was read yet.
-pub so-far-none : {m : Machine} → Opens (replicate 1024 0) (replicate 2048 0) (replicate 32768 0) (replicate 2048 0) m → SoFar m []
-unfolding station firstMachine zeroMachine
-so-far-none {m} o = record { read = []; written = []; onward = λ later. ap (λ (x : Machine). linesOf x later) (sym (o .reset)) }
+-- What it made of what was left before: so much for all turns.
+turned : {before left : Held} {came out : List ℕ} {next : ℕ} → left ≡ goneOn before came → take next out ≡ linesNow before came → next ≤ length out
+    → Turned before came next left out
+turned {before} {left} {came} {out} {next} state lines inside =
+    let now : (r : Reads) → before ≡ after r → written r ++ take next out ≡ written (r ▸ came) =
+    λ r e. ap (λ (l : List ℕ). written r ++ l) (lines ∙ ap (λ (h : Held). linesNow h came) e) in
+    record {
+      state = state;
+      lines = lines;
+      inside = inside;
+      so-far = λ r e. (state ∙ ap (λ (h : Held). goneOn h came) e, now r e);
+      whole = λ r g e empty.
+          let nothing : came ≡ [] = drop-of-length-le came {i = 0} (omega arith) in
+          now r e ∙ ap (λ (l : List ℕ). written (r ▸ l)) nothing ∙ in-turns .whole r g;
+    }
 
--- A turn further.
-pub so-far-more : {m : Machine} {waited : List ℕ} {t : Left} {send receive bytes notices input out : List ℕ}
-    → SoFar m waited → Turned m waited t send receive bytes notices input out → t .more ≡ true
-    → SoFar (machine (t .answered .saved) send receive bytes notices) (take (t .answered .kept) input)
-so-far-more {t = t} {out = out} s d e =
-    record { read = s .read ++ d .came; written = s .written ++ take (t .answered .next) out; onward = in-turns .more s d (d .more e) }
+-- What came stands behind what waited.
+behind : (input came : List ℕ) (kept : ℕ) → kept + length came ≤ length input → take (kept + length came) (sets input kept came) ≡ take kept input ++ came
+behind input came kept h =
+    let front : length (take kept input ++ came) ≡ kept + length came =
+    length-append (take kept input) came ∙ ap (λ (n : ℕ). n + length came) (length-take-le kept input (omega arith)) in
+    ap (take (kept + length came)) (sets-eq came input kept h) ∙ take-at (take kept input ++ came) _ (kept + length came) front
+
+-- By its steps: the bytes copied, the state loaded, the records answered, the state stored.
+pub in-memories : {send receive bytes notices saved₂ send₂ receive₂ bytes₂ notices₂ input₁ input₂ out : List ℕ} {s : Saved} {a : Answered}
+    → (saved input came : List ℕ) (kept : ℕ)
+    → kept + length came ≤ length input → input₁ ≡ sets input kept came → s ≡ savedOf saved
+    → Answers (machine s send receive bytes notices) (length came) (take (kept + length came) input₁) a send₂ receive₂ bytes₂ notices₂ input₂ out
+    → saved₂ ≡ wordsOf (a .saved)
+    → Turned (held saved send receive bytes notices input kept) came (a .next) (held saved₂ send₂ receive₂ bytes₂ notices₂ input₂ (a .kept)) out
+unfolding goneOn linesNow savedOf wordsOf
+in-memories {send} {receive} {bytes} {notices} {saved₂} {send₂} {receive₂} {bytes₂} {notices₂} {input₁} {input₂} {out} {s} {a} saved input came kept fits copied loaded answers stored =
+    let n : ℕ = length came in
+    let hand : take (kept + n) input₁ ≡ take kept input ++ came = ap (take (kept + n)) copied ∙ behind input came kept fits in
+    let r : Answers (machine (savedOf saved) send receive bytes notices) n (take kept input ++ came) a send₂ receive₂ bytes₂ notices₂ input₂ out =
+    rw (← loaded, ← hand) answers in
+    let kept-state : savedOf saved₂ ≡ a .saved = ap savedOf stored in
+    turned
+    (λ i. record { machine = (ap (λ (x : Saved). machine x send₂ receive₂ bytes₂ notices₂) kept-state ∙ r .state) i; waits = r .waits i })
+    (r .lines)
+    (r .inside)
+
+-- ---- the beginning
+
+-- The opening reset over memories of zeros, stored; no byte waits.
+pub begun : {saved send receive bytes notices send₂ receive₂ notices₂ : List ℕ} {kept : ℕ} {s : Saved} → Zeros send receive bytes notices
+    → Opens send receive bytes notices (machine s send₂ receive₂ bytes notices₂) → saved ≡ wordsOf s → kept ≡ 0
+    → Begun saved send₂ receive₂ bytes notices₂ kept
+unfolding firstMachine zeroMachine savedOf wordsOf
+begun {saved} {send} {receive} {bytes} {notices} {send₂} {receive₂} {notices₂} {kept} {s} z o stored zero =
+    let reset : List ℕ → List ℕ → List ℕ → List ℕ → Machine = λ a b c d. perform (writes pcsr0Number 0x80000000) (machine (resetSaved 0) a b c d) .machine in
+    let state : machine (savedOf saved) send₂ receive₂ bytes notices₂ ≡ firstMachine =
+    ap (λ (w : List ℕ). machine (savedOf w) send₂ receive₂ bytes notices₂) stored ∙ o .reset ∙ (λ i. reset (z .0 i) (z .1 i) (z .2 i) (z .3 i)) in
+    record { opens = λ input. λ i. record { machine = state i; waits = take (zero i) input }; nothing = zero }

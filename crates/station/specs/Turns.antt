@@ -1,18 +1,17 @@
--- What a turn of the station makes of the bytes at hand, and what its turns write together. Assumes nothing.
+-- What a turn of the station makes of bytes that came, and what its turns write together. Assumes nothing.
 -- The C functions read and write promise nothing of bytes: which bytes came, and that the lines went out, no contract can say.
 use Prim.Native.Nat.{ℕ, _*_, _/_, _<_, _≤_}
-use mathlib.Core.Bool.{true}
 use mathlib.Core.Path.{_≡_}
-use mathlib.Core.List.{List, _++_}
+use mathlib.Core.List.{List, [], _++_}
 use lib.Dec.{eqb}
-use lib.ListN.{length, take, drop}
+use lib.ListN.{length, take, drop, replicate}
 use Rattle.ground.specs.Choice.{pick}
-use Rattle.rules.specs.Memory.{Machine, machine}
-use Rattle.rules.specs.Station.{recordSize, linesFrom, station}
+use Rattle.rules.specs.Memory.{Machine, machine, sendSize, receiveSize, dataMost, noticesMost}
+use Rattle.rules.specs.Station.{recordSize, firstMachine, linesFrom, station}
+use Rattle.boundary.specs.Boundary.{savedOf}
 use Rattle.lines.specs.Lines.{lineMost}
 use Rattle.records.specs.Records.{machineAfter}
 use Rattle.station.specs.declared.answering.Answered.{Answered}
-use Rattle.station.specs.declared.Left.{Left}
 
 -- ---- the bytes at hand
 
@@ -32,8 +31,6 @@ waitingOf came hand = drop (answeredTo came (length hand)) hand
 abbrev pub linesOf : Machine → List ℕ → List ℕ
 linesOf m input = linesFrom (length input) m input
 
--- ---- a turn
-
 -- The rooms: 256 records, as many lines, and one record for what waits.
 abbrev pub Rooms : List ℕ → List ℕ → List ℕ → Type 0
 Rooms input out rest = (256 * recordSize ≡ length input) × (256 * lineMost ≡ length out) × (recordSize ≡ length rest)
@@ -46,28 +43,90 @@ pub record Answers (m : Machine) (came : ℕ) (hand : List ℕ) (a : Answered) (
   pub waits : take (a .kept) input ≡ waitingOf came hand
   pub less : a .kept < recordSize
 
--- Some bytes came behind those that waited, and all of these were at hand; where none came, there is no more.
-pub record Turned (m : Machine) (waited : List ℕ) (t : Left) (send receive bytes notices input out : List ℕ) : Type 0 where
-  pub came : List ℕ
-  pub answers : Answers m (length came) (waited ++ came) (t .answered) send receive bytes notices input out
-  pub more : t .more ≡ true → 0 < length came
+-- ---- between two turns
+
+-- What a turn leaves to the next: the machine, and the bytes that wait for the rest of their record.
+pub record Held : Type 0 where
+  pub machine : Machine
+  pub waits : List ℕ
+
+-- As the lent memories have it: the saved state in words, the waiting bytes at the front of the input's room.
+abbrev pub held : List ℕ → List ℕ → List ℕ → List ℕ → List ℕ → List ℕ → ℕ → Held
+held saved send receive bytes notices input kept =
+    record { machine = machine (savedOf saved) send receive bytes notices; waits = take kept input }
+
+-- "Memories are the largest, zero".
+abbrev pub Zeros : List ℕ → List ℕ → List ℕ → List ℕ → Type 0
+Zeros send receive bytes notices =
+    (send ≡ replicate sendSize 0) × (receive ≡ replicate receiveSize 0) × (bytes ≡ replicate dataMost 0) × (notices ≡ replicate noticesMost 0)
+
+-- Before the first turn: the machine after the opening reset, and no byte waits.
+abbrev pub opened : Held
+opened = record { machine = firstMachine; waits = [] }
+
+-- The memories have it, whatever the input's room holds.
+pub record Begun (saved send receive bytes notices : List ℕ) (kept : ℕ) : Type 0 where
+  pub opens : (input : List ℕ) → held saved send receive bytes notices input kept ≡ opened
+  pub nothing : kept ≡ 0
+
+-- ---- a turn
+
+-- So many bytes come in a turn at most: with less than a record before them they fit the input's room.
+abbrev pub cameMost : ℕ
+cameMost = 255 * recordSize
+
+-- The records that bytes make whole, behind those that wait.
+abbrev pub nowWhole : Held → List ℕ → List ℕ
+nowWhole h came = answeredOf (length came) (h .waits ++ came)
+
+-- What bytes that came leave.
+unfoldable pub goneOn : Held → List ℕ → Held
+goneOn h came =
+    record { machine = machineAfter (length (nowWhole h came)) (h .machine) (nowWhole h came); waits = waitingOf (length came) (h .waits ++ came) }
+
+-- The lines that they give.
+unfoldable pub linesNow : Held → List ℕ → List ℕ
+linesNow h came = linesOf (h .machine) (nowWhole h came)
 
 -- ---- all turns
 
--- Bytes were read and lines written so far: whatever comes later, the station's lines are these, and then those of what waits and comes later.
-pub record SoFar (m : Machine) (waited : List ℕ) : Type 0 where
-  pub read : List ℕ
-  pub written : List ℕ
-  pub onward : (later : List ℕ) → station (read ++ later) ≡ written ++ linesOf m (waited ++ later)
+-- What the reads gave, turn by turn: `none ▸ first ▸ second`.
+infixl 50 _▸_
+pub data Reads : Type 0 where
+  none : Reads
+  _▸_ : Reads → List ℕ → Reads
 
--- However the reads cut the input, the turns write the station's lines: each goes on from what was so far, and the last leaves none to be written.
+-- All that was read.
+abbrev pub read : Reads → List ℕ
+read none = []
+read (r ▸ came) = read r ++ came
+
+-- What the turns leave to the next.
+abbrev pub after : Reads → Held
+after none = opened
+after (r ▸ came) = goneOn (after r) came
+
+-- All that they write.
+abbrev pub written : Reads → List ℕ
+written none = []
+written (r ▸ came) = written r ++ linesNow (after r) came
+
+-- None of them met the end of the input.
+abbrev pub Going : Reads → Type 0
+Going none = Unit {0}
+Going (r ▸ came) = Going r × (0 < length came)
+
+-- A turn made of what the turns before left, and of what came, just what it should; and so, whatever was read before, all that was written
+-- by now is what the turns write, and at the end of the input the station's lines of all that was read.
+pub record Turned (before : Held) (came : List ℕ) (next : ℕ) (left : Held) (out : List ℕ) : Type 0 where
+  pub state : left ≡ goneOn before came
+  pub lines : take next out ≡ linesNow before came
+  pub inside : next ≤ length out
+  pub so-far : (r : Reads) → before ≡ after r → (left ≡ after (r ▸ came)) × (written r ++ take next out ≡ written (r ▸ came))
+  pub whole : (r : Reads) → Going r → before ≡ after r → length came ≡ 0 → written r ++ take next out ≡ station (read r)
+
+-- However the reads cut the input: the station's lines are those written so far, and then those of what waits and comes later; and once
+-- the end of the input is met, they are all written.
 pub record InTurns : Type 0 where
-  pub more : {m : Machine} {waited : List ℕ} {t : Left} {send receive bytes notices input out : List ℕ}
-      → (s : SoFar m waited) (d : Turned m waited t send receive bytes notices input out) → 0 < length (d .came) → (later : List ℕ)
-      → station (s .read ++ d .came ++ later)
-      ≡ s .written
-      ++ take (t .answered .next) out
-      ++ linesOf (machine (t .answered .saved) send receive bytes notices) (take (t .answered .kept) input ++ later)
-  pub last : {m : Machine} {waited : List ℕ} {t : Left} {send receive bytes notices input out : List ℕ}
-      → (s : SoFar m waited) (d : Turned m waited t send receive bytes notices input out) → length (d .came) ≡ 0
-      → station (s .read) ≡ s .written ++ take (t .answered .next) out
+  pub onward : (r : Reads) → Going r → (later : List ℕ) → station (read r ++ later) ≡ written r ++ linesOf (after r .machine) (after r .waits ++ later)
+  pub whole : (r : Reads) → Going r → written (r ▸ []) ≡ station (read r)

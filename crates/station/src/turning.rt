@@ -1,0 +1,64 @@
+// The station between its reads and writes: how it begins, and what a turn makes of bytes that came. All that one turn leaves to the next
+// stands in the lent memories, so that nothing has to be handed over.
+use crate::answering::answer;
+ghost use mathlib.Core.Path.{_≡_};
+ghost use Prim.Native.Nat.{_<_, _≤_};
+ghost use lib.ListN.{length};
+ghost use Rattle.rules.specs.Station.{recordSize};
+ghost use Rattle.boundary.specs.Boundary.{savedSize};
+ghost use Rattle.station.specs.Turns.{Rooms, Zeros, Begun, held, cameMost, Turned};
+
+// The opening reset over memories of zeros; no byte waits.
+pub(crate) fn begin(
+    saved: &mut [u32],
+    send: &mut [u32],
+    receive: &mut [u32],
+    bytes: &[u8],
+    notices: &mut [u32],
+    kept: &mut usize,
+)
+    requires { ⌜ (length (now saved) ≡ savedSize) × Zeros (now send) (now receive) (now bytes) (now notices) ⌝ }
+    ensures { λ _. ⌜ Begun (now (saved .exit)) (now (send .exit)) (now (receive .exit)) (now (bytes .entry)) (now (notices .exit)) (now (kept .exit)) ⌝ }
+{
+    let s = records::open(send, receive, bytes, notices);
+    boundary::store(saved, s);
+    *kept = 0;
+}
+
+// Bytes came: they go behind those that wait, the records at hand are answered, and the rest waits. Where the lines end.
+pub(crate) fn turn(
+    saved: &mut [u32],
+    send: &mut [u32],
+    receive: &mut [u32],
+    bytes: &mut [u8],
+    notices: &mut [u32],
+    input: &mut [u8],
+    kept: &mut usize,
+    rest: &mut [u8],
+    came: &[u8],
+    out: &mut [u8],
+) -> usize
+    requires { ⌜ (length (now saved) ≡ savedSize) × Rooms (now input) (now out) (now rest) × (now kept < recordSize) × (length (now came) ≤ cameMost) ⌝ }
+    ensures { λ r. ⌜ (now (kept .exit) < recordSize) × Turned (held (now (saved .entry)) (now (send .entry)) (now (receive .entry)) (now (bytes .entry)) (now (notices .entry)) (now (input .entry)) (now (kept .entry))) (now (came .entry)) r (held (now (saved .exit)) (now (send .exit)) (now (receive .exit)) (now (bytes .exit)) (now (notices .exit)) (now (input .exit)) (now (kept .exit))) (now (out .exit)) ⌝ }
+{
+    let waited = *kept;
+    let n = came.len();
+    words::copy(input, waited, came);
+    let s = boundary::load(saved);
+    let answered = answer(
+        s,
+        send,
+        receive,
+        bytes,
+        notices,
+        input,
+        out,
+        rest,
+        waited + n,
+        n,
+    );
+    let left = answered.saved;
+    boundary::store(saved, left);
+    *kept = answered.kept;
+    answered.next
+}
