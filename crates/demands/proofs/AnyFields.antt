@@ -50,7 +50,7 @@ module _ (f : Fields) (a : Allowed f) where
   unfolding fieldsIn
   meta =
       let count : metaCount (word3 f) ≡ f .metalen = λ i. fields-read f (a .within) i .metalen in
-      (λ i. leb (count i) 4 && (flag-read f (a .within) i || eqb (count i) 0)) ∙ and-both (le-leb (f .metalen) 4 (a .len)) (go (f .metaflag) refl)
+      (λ i. leb (count i) 4 && (flag-read f (a .within) i || eqb (count i) 0)) ∙ and-both (le-leb (f .metalen) 4 (omega (arith, a .len))) (go (f .metaflag) refl)
     where
       go : (b : Bool) → f .metaflag ≡ b → (b || eqb (f .metalen) 0) ≡ true
       go true e = refl

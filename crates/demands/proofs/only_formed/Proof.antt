@@ -190,7 +190,7 @@ module _ (s : List ℕ) (b : Bytes s) (well : wellFormed s ≡ true) where
         within = within;
         most = omega (arith, l);
         fours = omega (arith, l);
-        len = leb-true (metaCount w) 4 (search tests);
+        len = omega (arith, leb-true (metaCount w) 4 (search tests));
         no-len = λ e. eqb-true (metaCount w) 0 (or-second (metaFlag w) _ (search tests) e);
         no-metadata = λ e. pick-no _ noMetadata e;
         ack = λ e. ap length laid ∙ eqb-true (length s) 20 (or-second (not (isAckPkt (wordAt s 8))) _ ack (not-no e));

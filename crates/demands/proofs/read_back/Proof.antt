@@ -142,7 +142,7 @@ module _ (m : Machine) (words : Below (2 ^ 32) (m .send)) (inside : Below 256 (m
           within = within;
           most = payload .most;
           fours = payload .fours;
-          len = leb-true (metaCount c) 4 (search tests);
+          len = omega (arith, leb-true (metaCount c) 4 (search tests));
           no-len = λ e. eqb-true (metaCount c) 0 (or-second (metaFlag c) _ (search tests) e);
           no-metadata = λ e. pick-no _ noMetadata e;
           ack =
