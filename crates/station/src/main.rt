@@ -36,7 +36,14 @@ fn main() {
     let mut out = [0u8; 7424];
     let mut rest = [0u8; 192];
     let mut kept = 0usize;
-    begin(&mut saved, &mut send, &mut receive, &bytes, &mut notices, &mut kept);
+    begin(
+        &mut saved,
+        &mut send,
+        &mut receive,
+        &bytes,
+        &mut notices,
+        &mut kept,
+    );
     // Every loop has to be proved to end: so many turns that no input reaches the last.
     let mut turns = u64::MAX;
     while turns > 0 {

@@ -30,6 +30,7 @@ turn-spec =
     (λ c. search needs)
     (λ c.
     let answered = c .before .before .before .before .before .before .before .before .before .before .before .before .before .before .before .before .before .before .before .answer in
-    let start = c .before .before .before .before .before .before .before .before .before .before .before .before .before .before .before .before .before .before .before .before .before .before .before .before .before .before .before .before .before .before .before .before .before .before .before .before .before .before .before .before .before .before .before in
-    (answered .ensures .less,
-    in-memories (start .args .saved .now) (start .args .input .now) (start .args .came .now) (start .args .kept .now) (omega (arith, start .pre .1 .0, start .pre .2, start .pre .3)) (c .before .before .before .before .before .before .before .before .before .before .before .before .before .before .before .before .before .before .before .before .before .before .before .before .before .before .before .before .before .before .before .copy .ensures) (c .before .before .before .before .before .before .before .before .before .before .before .before .before .before .before .before .before .before .before .before .before .before .before .before .before .before .before .load .ensures) (answered .ensures) (c .before .before .store .ensures))))
+    let start = c .before .before .before .before .before .before .before .before .before .before .before .before .before .before .before .before .before .before .before .before .before .before .before .before .before .before .before .before .before .before .before .before .before .before .before .before .before .before .before .before .before .before .before in (
+      answered .ensures .less,
+      in-memories (start .args .saved .now) (start .args .input .now) (start .args .came .now) (start .args .kept .now) (omega (arith, start .pre .1 .0, start .pre .2, start .pre .3)) (c .before .before .before .before .before .before .before .before .before .before .before .before .before .before .before .before .before .before .before .before .before .before .before .before .before .before .before .before .before .before .before .copy .ensures) (c .before .before .before .before .before .before .before .before .before .before .before .before .before .before .before .before .before .before .before .before .before .before .before .before .before .before .before .load .ensures) (answered .ensures) (c .before .before .store .ensures),
+    )))
