@@ -1,6 +1,7 @@
 /* The calls of the engine for C. `rt staticlib boundary` makes the archive, target/staticlib/libboundary.a; examples/run shows how it is linked.
  *
- * A slice is a pointer and its length: in words where it is of uint32_t, in bytes where it is of uint8_t. Slices must not overlap.
+ * A slice is a pointer and its length: in words where it is of uint32_t, in bytes where it is of uint8_t. Slices must not overlap. No pointer may
+ * be null, not even of an empty slice, and words stand at multiples of 4 bytes.
  *
  * saved    the saved state, 15 words: PCSR0, int_hi, int_lo, slot count, packets taken, packets faulted, Send RAM pointer, Receive RAM
  *          pointer, NQR place, NQR length, AQR place, AQR length, NBQR place, NBQR length, last sender
@@ -12,7 +13,7 @@
  *          2 NQR is no longer empty, 4 NBQR became empty)
  *
  * Each call returns the reply's number. Any content is allowed, so all can begin as zeros: then write 0x80000000 to register 0x000, a reset.
- * A saved slice of another length than 15, or an answer shorter than 3, returns VALMTHOSH_SIZES with nothing written.
+ * A saved slice of another length than 15, or an answer shorter than 3, returns VALMTHOSH_SIZES with nothing written, the answer neither.
  */
 #ifndef VALMTHOSH_H
 #define VALMTHOSH_H
