@@ -1,4 +1,4 @@
--- The bytes at hand: which are answered, which wait, and that they come to the front. Assumes nothing.
+-- The bytes at hand: which are answered, which wait, and where. Assumes nothing.
 use Prim.Native.Nat.{ℕ, _+_, _-_, _*_, _/_, _%_, _<_, _≤_}
 use mathlib.Core.Path.{_≡_, refl, sym, ap, _∙_}
 use mathlib.Core.List.{List}
@@ -6,15 +6,15 @@ use native.Mathlib.Omega.{arith}
 use borrow.Author.Tests.{eq-eqb, ne-eqb}
 use lib.Dec.{eqb}
 use lib.ListN.{length, take, drop}
-use lib.Seq.{sets, length-sets, length-take-le, drop-at, take-add, take-take}
+use lib.Seq.{sets, length-sets, drop-at, take-take}
 use Rattle.ground.specs.Lists.{part}
 use Rattle.ground.proofs.Choice.{arm-yes, arm-no, pick-holds}
-use Rattle.ground.proofs.Lists.{part-sets, length-part}
+use Rattle.ground.proofs.Lists.{part-sets, part-add, length-part}
 use Rattle.rules.specs.Memory.{Machine}
 use Rattle.rules.specs.Station.{recordSize, linesFrom}
 use Rattle.records.specs.declared.running.Progress.{Progress}
 use Rattle.records.specs.Records.{machineAfter, Runs}
-use Rattle.station.specs.Turns.{answeredTo, answeredOf, waitingOf, Answers}
+use Rattle.station.specs.Turns.{answeredTo, answeredOf, waitingOf, waitingIn, handIn, Answers}
 
 -- ---- which are answered
 
@@ -35,58 +35,69 @@ nearly-all {end} came filled e =
     rw e
     (pick-holds (λ (k : ℕ). (k ≤ filled) × (filled < k + recordSize)) (eqb came 0) (omega arith, omega arith) (omega arith, omega arith))
 
--- ---- bytes at the front
+-- ---- bytes that wait
 
 -- What was stored there.
-stored : (n : ℕ) (v l : List ℕ) → length v ≡ n → n ≤ length l → take n (sets l 0 v) ≡ v
-stored n v l e h = ap (λ (k : ℕ). take k (sets l 0 v)) (sym e) ∙ part-sets l 0 v (omega arith)
+stored : (i n : ℕ) (v l : List ℕ) → length v ≡ n → i + n ≤ length l → part i n (sets l i v) ≡ v
+stored i n v l e h = ap (λ (k : ℕ). part i k (sets l i v)) (sym e) ∙ part-sets l i v (omega arith)
 
 -- A part that came there by way of another room.
-pub to-front : {room after : List ℕ} (from to : ℕ) (input rest : List ℕ)
-    → (from ≤ to) × (to ≤ length input) × (to ≤ from + length rest)
-    → room ≡ sets rest 0 (part from (to - from) input) → after ≡ sets input 0 (take (to - from) room)
-    → take (to - from) after ≡ part from (to - from) input
-to-front from to input rest h there back =
-    let v : List ℕ = part from (to - from) input in
-    let e : length v ≡ to - from = length-part from (to - from) input (omega (arith, h .0, h .1)) in
-    let held : take (to - from) (sets rest 0 v) ≡ v = stored (to - from) v rest e (omega (arith, h .2)) in
-    ap (take (to - from)) back
-    ∙ ap (λ (x : List ℕ). take (to - from) (sets input 0 (take (to - from) x))) there
-    ∙ ap (λ (x : List ℕ). take (to - from) (sets input 0 x)) held
-    ∙ stored (to - from) v input e (omega (arith, h .1))
+pub to-wait : {room after : List ℕ} (from to : ℕ) (input rest : List ℕ)
+    → (from ≤ to) × (to ≤ length input) × (to < from + recordSize) × (recordSize ≤ length input) × (recordSize ≤ length rest)
+    → room ≡ sets rest 0 (part from (to - from) input) → after ≡ sets input (recordSize - (to - from)) (take (to - from) room)
+    → waitingIn after (to - from) ≡ part from (to - from) input
+to-wait from to input rest h there back =
+    let n : ℕ = to - from in
+    let v : List ℕ = part from n input in
+    let e : length v ≡ n = length-part from n input (omega (arith, h .0, h .1)) in
+    let held : take n (sets rest 0 v) ≡ v = stored 0 n v rest e (omega (arith, h .2, h .4)) in
+    ap (λ (x : List ℕ). waitingIn x n) back
+    ∙ ap (λ (x : List ℕ). waitingIn (sets input (recordSize - n) (take n x)) n) there
+    ∙ ap (λ (x : List ℕ). waitingIn (sets input (recordSize - n) x) n) held
+    ∙ stored (recordSize - n) n v input e (omega (arith, h .2, h .3))
 
 -- ---- the records answered, the rest kept
 
--- The rest of the first elements of a list is a part of it.
-rest-part : (a n : ℕ) (l : List ℕ) → a ≤ n → n ≤ length l → drop a (take n l) ≡ part a (n - a) l
-rest-part a n l h k =
-    let e : n ≡ a + (n - a) = omega arith in
-    ap (λ (x : ℕ). drop a (take x l)) e
-    ∙ ap (drop a) (take-add a (n - a) l)
-    ∙ drop-at (take a l) (part a (n - a) l) a (length-take-le a l (omega arith))
+-- The start of a part, and the rest of it.
+part-start : (a k n : ℕ) (l : List ℕ) → k ≤ n → take k (part a n l) ≡ part a k l
+part-start a k n l h = take-take k n (drop a l) h
+
+part-rest : (a k n : ℕ) (l : List ℕ) → k ≤ n → a + n ≤ length l → drop k (part a n l) ≡ part (a + k) (n - k) l
+part-rest a k n l h f =
+    let e : n ≡ k + (n - k) = omega arith in
+    ap (λ (x : ℕ). drop k (part a x l)) e
+    ∙ ap (drop k) (part-add a k (n - k) l)
+    ∙ drop-at (part a k l) (part (a + k) (n - k) l) k (length-part a k l (omega arith))
 
 -- The records up to their end were run, and the bytes from there on kept.
 pub answers : {m : Machine} {before out after : List ℕ} {t : Progress} {send receive bytes notices : List ℕ}
-    → (input : List ℕ) (came filled end kept : ℕ)
-    → filled ≤ length input → end ≡ answeredTo came filled → Runs m (take end input) before t send receive bytes notices out
-    → (kept ≡ filled - end) × (take (filled - end) after ≡ part end (filled - end) input)
-    → Answers m came (take filled input) (record { saved = t .saved; next = t .next; kept = kept }) send receive bytes notices after out
-answers {m} {before} {out} {after} {t} input came filled end kept h e r k =
-    let hand : List ℕ = take filled input in
-    let near = nearly-all came filled e in
-    let size : length hand ≡ filled = length-take-le filled input h in
-    let to : answeredTo came (length hand) ≡ end = ap (answeredTo came) size ∙ sym e in
-    let first : answeredOf came hand ≡ take end input = ap (λ (n : ℕ). take n hand) to ∙ take-take end filled input (omega arith) in
-    let others : waitingOf came hand ≡ part end (filled - end) input =
-    ap (λ (n : ℕ). drop n hand) to ∙ rest-part end filled input (omega arith) h in
-    let lines : List ℕ = linesFrom (length (take end input)) m (take end input) in
+    → (input : List ℕ) (kept came to left : ℕ)
+    → kept < recordSize → recordSize + came ≤ length input → to ≡ answeredTo came (kept + came)
+    → Runs m (part (recordSize - kept) (recordSize - kept + to - (recordSize - kept)) input) before t send receive bytes notices out
+    → let n = recordSize + came - (recordSize - kept + to) in (left ≡ n) × (waitingIn after n ≡ part (recordSize - kept + to) n input)
+    → Answers m came (handIn input kept came) (record { saved = t .saved; next = t .next; kept = left }) send receive bytes notices after out
+answers {m} {before} {out} {after} {t} {send} {receive} {bytes} {notices} input kept came to left less fits e ran k =
+    let start : ℕ = recordSize - kept in
+    let cut : start + to - start ≡ to = omega arith in
+    let r : Runs m (part start to input) before t send receive bytes notices out = rw cut at ran in
+    let hand : List ℕ = handIn input kept came in
+    let near = nearly-all came (kept + came) e in
+    let size : length hand ≡ kept + came = length-part start (kept + came) input (omega arith) in
+    let whole : answeredTo came (length hand) ≡ to = ap (answeredTo came) size ∙ sym e in
+    let first : answeredOf came hand ≡ part start to input = ap (λ (n : ℕ). take n hand) whole ∙ part-start start to (kept + came) input (near .0) in
+    let rest : left ≡ kept + came - to = omega (arith, k .0, near .0) in
+    let others : waitingOf came hand ≡ part (start + to) left input =
+    ap (λ (n : ℕ). drop n hand) whole
+    ∙ part-rest start to (kept + came) input (near .0) (omega arith)
+    ∙ ap (λ (n : ℕ). part (start + to) n input) (sym rest) in
+    let lines : List ℕ = linesFrom (length (part start to input)) m (part start to input) in
     let long : length out ≡ length before = ap length (r .lines .buffer) ∙ length-sets before 0 lines in
     let written : take (t .next) out ≡ lines =
-    ap (take (t .next)) (r .lines .buffer) ∙ stored (t .next) lines before (omega (arith, r .lines .ends)) (omega (arith, r .inside)) in
+    ap (take (t .next)) (r .lines .buffer) ∙ stored 0 (t .next) lines before (omega (arith, r .lines .ends)) (omega (arith, r .inside)) in
     record {
       state = r .state ∙ ap (λ (l : List ℕ). machineAfter (length l) m l) (sym first);
       lines = written ∙ ap (λ (l : List ℕ). linesFrom (length l) m l) (sym first);
       inside = r .inside;
-      waits = ap (λ (n : ℕ). take n after) (k .0) ∙ k .1 ∙ sym others;
-      less = omega (arith, k .0);
+      waits = ap (waitingIn after) (k .0) ∙ k .1 ∙ ap (λ (n : ℕ). part (start + to) n input) (sym (k .0)) ∙ sym others;
+      less = omega (arith, rest, near .1);
     }

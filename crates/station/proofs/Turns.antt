@@ -3,8 +3,10 @@ use Prim.Native.Nat.{ℕ, _+_, _-_, _%_, _<_, _≤_}
 use mathlib.Core.Path.{_≡_, refl, sym, ap, _∙_}
 use mathlib.Core.List.{List, [], _++_, append-assoc, append-nil}
 use native.Mathlib.Omega.{arith}
-use lib.ListN.{length, take, drop, length-append, take-append-drop, drop-of-length-le}
-use lib.Seq.{sets, sets-eq, length-take-le, take-length, take-at}
+use lib.ListN.{length, take, drop, take-append-drop, drop-of-length-le}
+use lib.Seq.{length-take-le, take-length}
+use Rattle.ground.specs.Lists.{part}
+use Rattle.ground.proofs.Lists.{length-part, part-add}
 use Rattle.rules.specs.declared.Saved.{Saved}
 use Rattle.rules.specs.Memory.{Machine, machine}
 use Rattle.rules.specs.Saved.{resetSaved}
@@ -15,7 +17,7 @@ use Rattle.boundary.specs.Boundary.{savedOf, wordsOf}
 use Rattle.records.specs.Records.{Opens}
 use Rattle.records.proofs.Rows.{in-parts}
 use Rattle.station.specs.declared.answering.Answered.{Answered}
-use Rattle.station.specs.Turns.{answeredTo, answeredOf, linesOf, Answers, Held, held, Zeros, opened, Begun, goneOn, linesNow, Reads, none, _▸_, read, after, written, Going, Turned, InTurns}
+use Rattle.station.specs.Turns.{answeredTo, answeredOf, linesOf, waitingIn, cameIn, handIn, Answers, Held, held, Zeros, opened, Begun, goneOn, linesNow, Reads, none, _▸_, read, after, written, Going, Turned, InTurns}
 use Rattle.station.proofs.Hand.{at-the-end, before-the-end}
 
 -- ---- the lines of a turn
@@ -85,25 +87,22 @@ turned {before} {left} {came} {out} {next} state lines inside =
     }
 
 -- What came stands behind what waited.
-behind : (input came : List ℕ) (kept : ℕ) → kept + length came ≤ length input → take (kept + length came) (sets input kept came) ≡ take kept input ++ came
-behind input came kept h =
-    let front : length (take kept input ++ came) ≡ kept + length came =
-    length-append (take kept input) came ∙ ap (λ (n : ℕ). n + length came) (length-take-le kept input (omega arith)) in
-    ap (take (kept + length came)) (sets-eq came input kept h) ∙ take-at (take kept input ++ came) _ (kept + length came) front
+behind : (input : List ℕ) (kept n : ℕ) → kept < recordSize → handIn input kept n ≡ waitingIn input kept ++ cameIn input n
+behind input kept n h =
+    let at : recordSize - kept + kept ≡ recordSize = omega arith in
+    part-add (recordSize - kept) kept n input ∙ ap (λ (k : ℕ). waitingIn input kept ++ part k n input) at
 
--- By its steps: the bytes copied, the state loaded, the records answered, the state stored.
-pub in-memories : {send receive bytes notices saved₂ send₂ receive₂ bytes₂ notices₂ input₁ input₂ out : List ℕ} {s : Saved} {a : Answered}
-    → (saved input came : List ℕ) (kept : ℕ)
-    → kept + length came ≤ length input → input₁ ≡ sets input kept came → s ≡ savedOf saved
-    → Answers (machine s send receive bytes notices) (length came) (take (kept + length came) input₁) a send₂ receive₂ bytes₂ notices₂ input₂ out
+-- By its steps: the state loaded, the records answered, the state stored.
+pub in-memories : {send receive bytes notices saved₂ send₂ receive₂ bytes₂ notices₂ input₂ out : List ℕ} {s : Saved} {a : Answered}
+    → (saved input : List ℕ) (kept n : ℕ) → kept < recordSize → recordSize + n ≤ length input → s ≡ savedOf saved
+    → Answers (machine s send receive bytes notices) n (handIn input kept n) a send₂ receive₂ bytes₂ notices₂ input₂ out
     → saved₂ ≡ wordsOf (a .saved)
-    → Turned (held saved send receive bytes notices input kept) came (a .next) (held saved₂ send₂ receive₂ bytes₂ notices₂ input₂ (a .kept)) out
+    → Turned (held saved send receive bytes notices input kept) (cameIn input n) (a .next) (held saved₂ send₂ receive₂ bytes₂ notices₂ input₂ (a .kept)) out
 unfolding goneOn linesNow savedOf wordsOf
-in-memories {send} {receive} {bytes} {notices} {saved₂} {send₂} {receive₂} {bytes₂} {notices₂} {input₁} {input₂} {out} {s} {a} saved input came kept fits copied loaded answers stored =
-    let n : ℕ = length came in
-    let hand : take (kept + n) input₁ ≡ take kept input ++ came = ap (take (kept + n)) copied ∙ behind input came kept fits in
-    let r : Answers (machine (savedOf saved) send receive bytes notices) n (take kept input ++ came) a send₂ receive₂ bytes₂ notices₂ input₂ out =
-    rw (← loaded, ← hand) answers in
+in-memories {send} {receive} {bytes} {notices} {saved₂} {send₂} {receive₂} {bytes₂} {notices₂} {input₂} {out} {s} {a} saved input kept n less fits loaded answers stored =
+    let long : length (cameIn input n) ≡ n = length-part recordSize n input fits in
+    let r : Answers (machine (savedOf saved) send receive bytes notices) (length (cameIn input n)) (waitingIn input kept ++ cameIn input n) a send₂ receive₂ bytes₂ notices₂ input₂ out =
+    rw (long, ← loaded, ← behind input kept n less) answers in
     let kept-state : savedOf saved₂ ≡ a .saved = ap savedOf stored in
     turned
     (λ i. record { machine = (ap (λ (x : Saved). machine x send₂ receive₂ bytes₂ notices₂) kept-state ∙ r .state) i; waits = r .waits i })
@@ -121,4 +120,4 @@ begun {saved} {send} {receive} {bytes} {notices} {send₂} {receive₂} {notices
     let reset : List ℕ → List ℕ → List ℕ → List ℕ → Machine = λ a b c d. perform (writes pcsr0Number 0x80000000) (machine (resetSaved 0) a b c d) .machine in
     let state : machine (savedOf saved) send₂ receive₂ bytes notices₂ ≡ firstMachine =
     ap (λ (w : List ℕ). machine (savedOf w) send₂ receive₂ bytes notices₂) stored ∙ o .reset ∙ (λ i. reset (z .0 i) (z .1 i) (z .2 i) (z .3 i)) in
-    record { opens = λ input. λ i. record { machine = state i; waits = take (zero i) input }; nothing = zero }
+    record { opens = λ input. λ i. record { machine = state i; waits = waitingIn input (zero i) }; nothing = zero }

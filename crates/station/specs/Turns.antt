@@ -1,11 +1,12 @@
 -- What a turn of the station makes of bytes that came, and what its turns write together. Assumes nothing.
 -- The C functions read and write promise nothing of bytes: which bytes came, and that the lines went out, no contract can say.
-use Prim.Native.Nat.{ℕ, _*_, _/_, _<_, _≤_}
+use Prim.Native.Nat.{ℕ, _+_, _-_, _*_, _/_, _<_, _≤_}
 use mathlib.Core.Path.{_≡_}
 use mathlib.Core.List.{List, [], _++_}
 use lib.Dec.{eqb}
 use lib.ListN.{length, take, drop, replicate}
 use Rattle.ground.specs.Choice.{pick}
+use Rattle.ground.specs.Lists.{part}
 use Rattle.rules.specs.Memory.{Machine, machine, sendSize, receiveSize, dataMost, noticesMost}
 use Rattle.rules.specs.Station.{recordSize, firstMachine, linesFrom, station}
 use Rattle.boundary.specs.Boundary.{savedOf}
@@ -35,12 +36,24 @@ linesOf m input = linesFrom (length input) m input
 abbrev pub Rooms : List ℕ → List ℕ → List ℕ → Type 0
 Rooms input out rest = (256 * recordSize ≡ length input) × (256 * lineMost ≡ length out) × (recordSize ≡ length rest)
 
--- Of the bytes at hand, so many of which came last, the records are answered, and the other bytes stand at the front.
+-- The bytes that wait stand at the end of the room's first record, so that what comes next stands behind them.
+abbrev pub waitingIn : List ℕ → ℕ → List ℕ
+waitingIn input kept = part (recordSize - kept) kept input
+
+-- What came stands from the second record on.
+abbrev pub cameIn : List ℕ → ℕ → List ℕ
+cameIn input n = part recordSize n input
+
+-- Both.
+abbrev pub handIn : List ℕ → ℕ → ℕ → List ℕ
+handIn input kept n = part (recordSize - kept) (kept + n) input
+
+-- Of the bytes at hand, so many of which came last, the records are answered, and the other bytes wait.
 pub record Answers (m : Machine) (came : ℕ) (hand : List ℕ) (a : Answered) (send receive bytes notices input out : List ℕ) : Type 0 where
   pub state : machine (a .saved) send receive bytes notices ≡ machineAfter (length (answeredOf came hand)) m (answeredOf came hand)
   pub lines : take (a .next) out ≡ linesOf m (answeredOf came hand)
   pub inside : a .next ≤ length out
-  pub waits : take (a .kept) input ≡ waitingOf came hand
+  pub waits : waitingIn input (a .kept) ≡ waitingOf came hand
   pub less : a .kept < recordSize
 
 -- ---- between two turns
@@ -50,10 +63,10 @@ pub record Held : Type 0 where
   pub machine : Machine
   pub waits : List ℕ
 
--- As the lent memories have it: the saved state in words, the waiting bytes at the front of the input's room.
+-- As the lent memories have it: the saved state in words, the waiting bytes in the input's room.
 abbrev pub held : List ℕ → List ℕ → List ℕ → List ℕ → List ℕ → List ℕ → ℕ → Held
 held saved send receive bytes notices input kept =
-    record { machine = machine (savedOf saved) send receive bytes notices; waits = take kept input }
+    record { machine = machine (savedOf saved) send receive bytes notices; waits = waitingIn input kept }
 
 -- "Memories are the largest, zero".
 abbrev pub Zeros : List ℕ → List ℕ → List ℕ → List ℕ → Type 0
@@ -70,10 +83,6 @@ pub record Begun (saved send receive bytes notices : List ℕ) (kept : ℕ) : Ty
   pub nothing : kept ≡ 0
 
 -- ---- a turn
-
--- So many bytes come in a turn at most: with less than a record before them they fit the input's room.
-abbrev pub cameMost : ℕ
-cameMost = 255 * recordSize
 
 -- The records that bytes make whole, behind those that wait.
 abbrev pub nowWhole : Held → List ℕ → List ℕ

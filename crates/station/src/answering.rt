@@ -1,13 +1,14 @@
-// What is done with the bytes at hand, without a read or a write: their records are answered, and the rest comes to the front.
+// What is done with the bytes at hand, without a read or a write: their records are answered, and the rest waits where the next bytes come.
 use rules::Saved;
 ghost use mathlib.Core.Path.{_≡_};
-ghost use Prim.Native.Nat.{_+_, _-_, _≤_};
-ghost use lib.ListN.{length, take};
+ghost use Prim.Native.Nat.{_+_, _-_, _<_, _≤_};
+ghost use lib.ListN.{length};
 ghost use Rattle.ground.specs.Lists.{part};
 ghost use Rattle.rules.specs.Memory.{machine};
-ghost use Rattle.station.specs.Turns.{answeredTo, Rooms, Answers};
+ghost use Rattle.rules.specs.Station.{recordSize};
+ghost use Rattle.station.specs.Turns.{answeredTo, handIn, waitingIn, Rooms, Answers};
 
-// The records that are at hand end here: the whole ones, and at the end of the input a torn one too.
+// So many of the bytes at hand are answered: the whole records, and at the end of the input a torn one too.
 fn answered_to(n: usize, filled: usize) -> usize
     ensures { λ r. ⌜ r ≡ answeredTo n filled ⌝ }
 {
@@ -18,14 +19,14 @@ fn answered_to(n: usize, filled: usize) -> usize
     }
 }
 
-// The bytes from one place to another come to the front, by way of a room for less than a record; how many they are.
+// The bytes from one place to another, less than a record, go where they wait, by way of a room of their own; how many they are.
 fn keep(input: &mut [u8], rest: &mut [u8], from: usize, to: usize) -> usize
-    requires { ⌜ (from ≤ to) × (to ≤ length (now input)) × (to ≤ from + length (now rest)) ⌝ }
-    ensures { λ r. ⌜ (r ≡ to - from) × (take (to - from) (now (input .exit)) ≡ part from (to - from) (now (input .entry))) ⌝ }
+    requires { ⌜ (from ≤ to) × (to ≤ length (now input)) × (to < from + recordSize) × (recordSize ≤ length (now input)) × (recordSize ≤ length (now rest)) ⌝ }
+    ensures { λ r. ⌜ (r ≡ to - from) × (waitingIn (now (input .exit)) (to - from) ≡ part from (to - from) (now (input .entry))) ⌝ }
 {
     let n = to - from;
     words::copy(rest, 0, &input[from..to]);
-    words::copy(input, 0, &rest[..n]);
+    words::copy(input, 192 - n, &rest[..n]);
     n
 }
 
@@ -36,7 +37,7 @@ pub struct Answered {
     pub kept: usize,
 }
 
-// The first `filled` bytes of the input are at hand, the last n of them came now.
+// So many bytes wait at the input's front, and so many came behind them.
 pub(crate) fn answer(
     s: Saved,
     send: &mut [u32],
@@ -46,19 +47,20 @@ pub(crate) fn answer(
     input: &mut [u8],
     out: &mut [u8],
     rest: &mut [u8],
-    filled: usize,
+    kept: usize,
     n: usize,
 ) -> Answered
-    requires { ⌜ Rooms (now input) (now out) (now rest) × (filled ≤ length (now input)) ⌝ }
-    ensures { λ r. ⌜ Answers (machine s (now (send .entry)) (now (receive .entry)) (now (bytes .entry)) (now (notices .entry))) n (take filled (now (input .entry))) r (now (send .exit)) (now (receive .exit)) (now (bytes .exit)) (now (notices .exit)) (now (input .exit)) (now (out .exit)) ⌝ }
+    requires { ⌜ Rooms (now input) (now out) (now rest) × (kept < recordSize) × (recordSize + n ≤ length (now input)) ⌝ }
+    ensures { λ r. ⌜ Answers (machine s (now (send .entry)) (now (receive .entry)) (now (bytes .entry)) (now (notices .entry))) n (handIn (now (input .entry)) kept n) r (now (send .exit)) (now (receive .exit)) (now (bytes .exit)) (now (notices .exit)) (now (input .exit)) (now (out .exit)) ⌝ }
 {
-    let end = answered_to(n, filled);
-    let t = records::run(s, send, receive, bytes, notices, &input[..end], out);
+    let start = 192 - kept;
+    let end = start + answered_to(n, kept + n);
+    let t = records::run(s, send, receive, bytes, notices, &input[start..end], out);
     let saved = t.saved;
-    let kept = keep(input, rest, end, filled);
+    let left = keep(input, rest, end, 192 + n);
     Answered {
         saved,
         next: t.next,
-        kept,
+        kept: left,
     }
 }

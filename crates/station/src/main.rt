@@ -7,16 +7,20 @@ use libc::STDIN_FILENO;
 use libc::STDOUT_FILENO;
 use turning::begin;
 use turning::turn;
-ghost use Prim.Native.Nat.{_≤_};
-ghost use lib.ListN.{length};
+ghost use mathlib.Core.Path.{_≡_};
+ghost use Prim.Native.Nat.{_+_, _≤_};
+ghost use lib.ListN.{length, take};
+ghost use Rattle.rules.specs.Station.{recordSize};
 ghost use Rattle.station.specs.Turns.{InTurns};
 
-// Reads what is at hand, and says how many bytes came: 0 at the end of the input.
-fn read_on(came: &mut [u8]) -> usize
-    ensures { λ r. ⌜ r ≤ length (now (came .exit)) ⌝ }
+// Reads what is at hand behind the room's first record, where bytes may wait, and says how many bytes came: 0 at the end of the input.
+fn read_on(input: &mut [u8]) -> usize
+    requires { ⌜ recordSize ≤ length (now input) ⌝ }
+    ensures { λ r. ⌜ (recordSize + r ≤ length (now (input .exit))) × (take recordSize (now (input .exit)) ≡ take recordSize (now (input .entry))) ⌝ }
 {
-    let got = libc::read(STDIN_FILENO, came);
-    io::count(got, came)
+    let behind = &mut input[192..];
+    let got = libc::read(STDIN_FILENO, behind);
+    io::count(got, behind)
 }
 
 // However the reads cut the input, the turns write the station's lines.
@@ -30,8 +34,7 @@ fn main() {
     let mut receive = [0u32; 2048];
     let mut bytes = [0u8; 32768];
     let mut notices = [0u32; 2048];
-    // What comes, 255 records of 192 bytes at most; the same behind less than a record that waits; lines of 29 bytes at most; a record's room.
-    let mut came = [0u8; 48960];
+    // 255 records of 192 bytes behind what waits, less than one; as many lines of 29 bytes at most, and one; a room for what waits.
     let mut input = [0u8; 49152];
     let mut out = [0u8; 7424];
     let mut rest = [0u8; 192];
@@ -47,7 +50,7 @@ fn main() {
     // Every loop has to be proved to end: so many turns that no input reaches the last.
     let mut turns = u64::MAX;
     while turns > 0 {
-        let n = read_on(&mut came);
+        let n = read_on(&mut input);
         let next = turn(
             &mut saved,
             &mut send,
@@ -56,8 +59,8 @@ fn main() {
             &mut notices,
             &mut input,
             &mut kept,
+            n,
             &mut rest,
-            &came[..n],
             &mut out,
         );
         let written = io::write_all(STDOUT_FILENO, &out[..next]);

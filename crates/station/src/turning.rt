@@ -2,11 +2,11 @@
 // stands in the lent memories, so that nothing has to be handed over.
 use crate::answering::answer;
 ghost use mathlib.Core.Path.{_≡_};
-ghost use Prim.Native.Nat.{_<_, _≤_};
+ghost use Prim.Native.Nat.{_+_, _<_, _≤_};
 ghost use lib.ListN.{length};
 ghost use Rattle.rules.specs.Station.{recordSize};
 ghost use Rattle.boundary.specs.Boundary.{savedSize};
-ghost use Rattle.station.specs.Turns.{Rooms, Zeros, Begun, held, cameMost, Turned};
+ghost use Rattle.station.specs.Turns.{Rooms, Zeros, Begun, held, cameIn, Turned};
 
 // The opening reset over memories of zeros; no byte waits.
 pub(crate) fn begin(
@@ -25,7 +25,7 @@ pub(crate) fn begin(
     *kept = 0;
 }
 
-// Bytes came: they go behind those that wait, the records at hand are answered, and the rest waits. Where the lines end.
+// So many bytes came: with those that wait before them the records at hand are answered, and the rest waits. Where the lines end.
 pub(crate) fn turn(
     saved: &mut [u32],
     send: &mut [u32],
@@ -34,29 +34,15 @@ pub(crate) fn turn(
     notices: &mut [u32],
     input: &mut [u8],
     kept: &mut usize,
+    n: usize,
     rest: &mut [u8],
-    came: &[u8],
     out: &mut [u8],
 ) -> usize
-    requires { ⌜ (length (now saved) ≡ savedSize) × Rooms (now input) (now out) (now rest) × (now kept < recordSize) × (length (now came) ≤ cameMost) ⌝ }
-    ensures { λ r. ⌜ (now (kept .exit) < recordSize) × Turned (held (now (saved .entry)) (now (send .entry)) (now (receive .entry)) (now (bytes .entry)) (now (notices .entry)) (now (input .entry)) (now (kept .entry))) (now (came .entry)) r (held (now (saved .exit)) (now (send .exit)) (now (receive .exit)) (now (bytes .exit)) (now (notices .exit)) (now (input .exit)) (now (kept .exit))) (now (out .exit)) ⌝ }
+    requires { ⌜ (length (now saved) ≡ savedSize) × Rooms (now input) (now out) (now rest) × (now kept < recordSize) × (recordSize + n ≤ length (now input)) ⌝ }
+    ensures { λ r. ⌜ (now (kept .exit) < recordSize) × Turned (held (now (saved .entry)) (now (send .entry)) (now (receive .entry)) (now (bytes .entry)) (now (notices .entry)) (now (input .entry)) (now (kept .entry))) (cameIn (now (input .entry)) n) r (held (now (saved .exit)) (now (send .exit)) (now (receive .exit)) (now (bytes .exit)) (now (notices .exit)) (now (input .exit)) (now (kept .exit))) (now (out .exit)) ⌝ }
 {
-    let waited = *kept;
-    let n = came.len();
-    words::copy(input, waited, came);
     let s = boundary::load(saved);
-    let answered = answer(
-        s,
-        send,
-        receive,
-        bytes,
-        notices,
-        input,
-        out,
-        rest,
-        waited + n,
-        n,
-    );
+    let answered = answer(s, send, receive, bytes, notices, input, out, rest, *kept, n);
     let left = answered.saved;
     boundary::store(saved, left);
     *kept = answered.kept;

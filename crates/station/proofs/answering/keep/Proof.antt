@@ -4,7 +4,7 @@ use native.Mathlib.Omega.{arith}
 use borrow.Author.Needs.{needs}
 use lib.ListN.{length-take}
 use lib.Seq.{length-take-le}
-use Rattle.station.proofs.Hand.{to-front}
+use Rattle.station.proofs.Hand.{to-wait}
 use Rattle.station.proofs.answering.keep.Statement.{statement}
 use Rattle.station.proofs.answering.keep.Tie as tie
 
@@ -18,10 +18,11 @@ keep-spec =
     (λ c. search needs)
     (λ c κs. search needs)
     (λ c. search needs)
+    (λ c. search needs)
     (λ c. sym (length-take-le _ _ (omega arith)))
-    (λ c κs. simp length-take (omega arith))
+    (λ c κs. let asked = c .before .before .before .before .before .before .before .before .before .before .pre in simp length-take (omega (arith, asked .2, asked .3)))
     (λ c. search needs)
     (λ c. search needs)
     (λ c.
     let start = c .before .before .before .before .before .before .before .before .before .before .before .before .before in
-    (refl, to-front (start .args .from) (start .args .to) (start .args .input .now) (start .args .rest .now) (start .pre) (c .before .before .before .before .before .before .before .copy .ensures) (c .before .before .copy2 .ensures))))
+    (refl, to-wait (start .args .from) (start .args .to) (start .args .input .now) (start .args .rest .now) (start .pre) (c .before .before .before .before .before .before .before .copy .ensures) (c .before .before .copy2 .ensures))))
