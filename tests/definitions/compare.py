@@ -101,6 +101,7 @@ def answered_record(definitions, data, machine, lent):
     if lent is not None:
         call = entries.lent_room(call, lent)
     outcome = definitions.perform(call, machine)
+    word_bytes([outcome.value, *entries.saved_numbers(outcome.machine.saved)])  # a number beyond 32 bits is no answer
     return outcome, bytes(definitions.line_of(definitions.kind_of(data), outcome.reply, outcome.value, outcome.interrupts))
 
 

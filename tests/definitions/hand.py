@@ -68,6 +68,8 @@ def record_by_hand(word, *rest):
     """The kind that is printed for a record written by hand, and the record's bytes."""
     if word == 'torn':
         return 0, torn_record(*rest)
+    if word == 'record':
+        return whole_record(bytes_by_hand(rest))
     if word == 'receive':
         return KINDS[word], record_of(KINDS[word], packet=bytes_by_hand(rest))
     numbers = [int(number, 0) for number in rest]
@@ -76,6 +78,13 @@ def record_by_hand(word, *rest):
     if len(numbers) != (2 if word == 'write' else 1) or word not in KINDS:
         raise ValueError(f'{word} with {len(numbers)} numbers is not known')
     return KINDS[word], record_of(KINDS[word], *numbers)
+
+
+def whole_record(data):
+    """The kind and the bytes of a record that is given by its bytes."""
+    if len(data) != RECORD:
+        raise ValueError(f'a record has {RECORD} bytes, not {len(data)}')
+    return data[0], data
 
 
 def torn_record(count):
