@@ -85,7 +85,8 @@ def altered(machine, what, name, numbers):
     if what == 'set':
         memory[numbers[0]] = numbers[1]
     elif what == 'fill':
-        memory[numbers[0]:numbers[0] + numbers[1]] = [numbers[2]] * numbers[1]
+        for at in range(numbers[0], numbers[0] + numbers[1]):
+            memory[at] = numbers[2]
     else:
         memory = (memory + [0] * numbers[0])[:numbers[0]]
     return SimpleNamespace(**{**vars(machine), name: memory})

@@ -48,8 +48,9 @@ def step_of(place, text):
     if word == 'room' and not rest:
         return Room(place, bytes_by_hand(expected.split()))
     lent = None
-    if word in ('send', 'take') and rest[1:2] == ['into']:
-        rest, lent = rest[:1], int(*rest[2:])
+    if word in ('send', 'take') and 'into' in rest:
+        number, _, count = rest
+        rest, lent = [number], int(count)
     kind, data = record_by_hand(word, *rest)
     return Record(place, data, f'{kind} {expected.strip()}\n'.encode(), lent)
 
