@@ -28,7 +28,7 @@ const RECEIPT: &[(u32, Mutation)] = &[
     (8, slot_words),
     (8, stage_completion),
     (3, full_aqr),
-    (2, |case, rng| stage_posting(case, rng, ListIndex::FAULTS)),
+    (4, |case, rng| stage_posting(case, rng, ListIndex::FAULTS)),
 ];
 
 const SENDING: &[(u32, Mutation)] = &[

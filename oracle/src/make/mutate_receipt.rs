@@ -58,7 +58,11 @@ pub fn stage_completion(case: &mut Case, rng: &mut Rng) {
         _ => words[2] >> 16,
     };
     let list = ListIndex::new(number).unwrap_or(ListIndex::FAULTS);
-    stage_posting(case, rng, list);
+    if rng.chance(40) {
+        make_room(&mut case.machine, rng, list);
+    } else {
+        stage_posting(case, rng, list);
+    }
     let saved = &mut case.machine.saved;
     if rng.chance(60) {
         saved.aqr.length = rng.pick(&[0, 0, 1, 255, 256, 256]);
@@ -111,7 +115,7 @@ pub fn slot_words(case: &mut Case, rng: &mut Rng) {
     let offset = draft.get(OFFSET);
     let length = case.machine.data.len() as u32;
     let words = &mut case.machine.receive_ram[slot..slot + SLOT_WORDS];
-    match rng.below(16) {
+    match rng.below(18) {
         // "offset above buffer size", "offset plus payload above it"
         0 => words[1] = rng.pick(&[offset, offset.wrapping_sub(1), offset + payload]),
         1 => words[1] = (offset + payload).wrapping_sub(rng.range(1, 4)),
@@ -122,12 +126,12 @@ pub fn slot_words(case: &mut Case, rng: &mut Rng) {
         6 => words[2] = words[2] & 0xFFFF | rng.pick(&[63, 64, 0xFFFF]) << 16,
         7 => words[6] = rng.pick(&[63, 64, 0xFFFF]) << 16 | rng.word() & 0xFFFF,
         // "words 4 and 5 below 2^24"
-        8..=11 => {
+        8..=13 => {
             let beyond = 1 << rng.range(24, 31);
             words[rng.pick(&[4, 5])] = rng.pick(&[LARGEST_24, beyond, beyond, u32::MAX]);
         }
         // "word 7 only flag and length"
-        12..=13 => words[7] = 1 << rng.below(32),
+        14..=15 => words[7] = 1 << rng.below(32),
         _ => any_metadata(words, rng),
     }
 }
