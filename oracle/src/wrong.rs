@@ -55,6 +55,10 @@ mistakes! {
         "a full AQR does not stall";
     PostsBeforeAqrFull, "posts-before-aqr-full",
         "a completion posts its notice before AQR is found full";
+    AckNeedsAqr, "ack-needs-aqr",
+        "an ack packet stalls with AQR full";
+    FaultNeedsAqr, "fault-needs-aqr",
+        "a fault stalls with AQR full";
     StalledCounts, "stalled-counts",
         "a stalled fault counts as faulted";
     CountsSaturate, "counts-saturate",
@@ -75,6 +79,8 @@ mistakes! {
         "a bad go on an active descriptor answers bad-value";
     GoClearsStatus2, "go-clears-status2",
         "go clears the whole of status2";
+    GoKeepsStalled, "go-keeps-stalled",
+        "go clears done, but not stalled";
     ResetKeepsAqrLength, "reset-keeps-aqr-length",
         "reset keeps AQR's length";
     ResetNeedsSound, "reset-needs-sound",
@@ -93,6 +99,8 @@ mistakes! {
         "slot words 7 to 11 stay after a completed message";
     NoticeOfPacketOffset, "notice-of-packet-offset",
         "a message notice shows the packet's offset, not the slot's";
+    NoticeOfUnflagged, "notice-of-unflagged",
+        "a message notice shows metadata words without the flag in slot word 7";
     HeaderCheckSkipsMetadata, "header-check-skips-metadata",
         "receipt's header check leaves the metadata out";
     PaddingUnchecked, "padding-unchecked",
@@ -103,6 +111,12 @@ mistakes! {
         "bytes_to_go is range-checked before the payload is subtracted too";
     ReserveUnchecked, "reserve-unchecked",
         "a slot with reserve bits is valid";
+    MsgSizeUnchecked, "msg-size-unchecked",
+        "a slot with word 4 at 2^24 or above is valid";
+    MsgOffsetUnchecked, "msg-offset-unchecked",
+        "a slot with word 5 at 2^24 or above is valid";
+    MetaWordUnchecked, "meta-word-unchecked",
+        "a slot with more than flag and length in word 7 is valid";
     NoPacketBeforeOff, "no-packet-before-off",
         "no-packet comes before off";
     QuietBeforeShort, "quiet-before-short",

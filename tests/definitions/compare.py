@@ -4,8 +4,8 @@ from contextlib import contextmanager
 from itertools import zip_longest
 
 import entries
-from hand import Alteration, Sight, hand_steps
-from vectors import Record, all_tests, in_words, raw_cases, record_in_words, station_records
+from hand import Alteration, Room, Sight, hand_steps
+from vectors import KINDS, Record, all_tests, in_words, raw_cases, record_in_words, station_records
 
 # The parts of a raw answer that are no single numbers, and those of them that are bytes.
 MEMORIES = ('send RAM', 'receive RAM', 'data memory', 'notice memory', 'packet buffer', 'notice room')
@@ -38,22 +38,25 @@ def check(definitions, name):
         return check_steps(definitions, station_records(path))
     steps = hand_steps(path)
     compared = check_steps(definitions, steps)
-    if all(isinstance(step, Record) for step in steps):
+    if all(isinstance(step, Record) and step.lent is None for step in steps):
         check_whole(definitions, steps)
     return compared
 
 
 def check_steps(definitions, steps):
     """Each step in turn, on the machine that the one before it left."""
-    machine = definitions.first_machine()
+    kind, machine, room = 0, definitions.first_machine(), []
     for step in steps:
         if isinstance(step, Alteration):
             with answering(step.place):
                 machine = entries.altered(machine, step.what, step.name, step.numbers)
         elif isinstance(step, Sight):
             check_sight(step, machine)
+        elif isinstance(step, Room):
+            check_room(step, kind, room)
         else:
-            machine = check_record(definitions, step, machine)
+            outcome = check_record(definitions, step, machine)
+            kind, machine, room = step.data[0], outcome.machine, outcome.room
     return f'{len(steps)} lines'
 
 
@@ -74,19 +77,31 @@ def check_sight(sight, machine):
         raise Difference(sight.place, f'place {sight.at} of {sight.memory} is 0x{number:08X}, expected is 0x{sight.expected:08X}')
 
 
+def check_room(step, kind, room):
+    """All bytes of a send's packet room, or of a take's notice room, whose words are big-endian."""
+    with answering(step.place):
+        said = struct.pack(f'>{len(room)}I', *room) if kind == KINDS['take'] else bytes(room)
+    if said != step.expected:
+        raise Difference(step.place, f'the room holds {said.hex(" ", 4)}')
+
+
 def check_record(definitions, record, machine):
-    """The line of a record; the machine after it."""
+    """The line of a record; what it comes to."""
     with answering(record.place):
-        outcome, line = answered_record(definitions, list(record.data), machine)
+        outcome, line = answered_record(definitions, list(record.data), machine, record.lent)
     if line != record.line:
         said, expected = (text.decode('ascii', 'replace').rstrip('\n') for text in (line, record.line))
         raise Difference(record.place, f'{record_in_words(record.data)}: the definitions say "{said}", expected is "{expected}"')
-    return outcome.machine
+    return outcome
 
 
-def answered_record(definitions, data, machine):
+def answered_record(definitions, data, machine, lent):
     """What a record comes to, and its line."""
-    outcome = definitions.perform(definitions.call_of(data), machine)
+    call = definitions.call_of(data)
+    if lent is not None:
+        call = entries.lent_room(call, lent)
+    outcome = definitions.perform(call, machine)
+    word_bytes([outcome.value, *entries.saved_numbers(outcome.machine.saved)])  # a number beyond 32 bits is no answer
     return outcome, bytes(definitions.line_of(definitions.kind_of(data), outcome.reply, outcome.value, outcome.interrupts))
 
 

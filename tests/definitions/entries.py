@@ -44,6 +44,12 @@ def call(kind, first, second, packet, room):
     return calls.get(kind, ('Call.unknown',))
 
 
+def lent_room(call, count):
+    """The send or take with another room, of zeros."""
+    *rest, _ = call
+    return (*rest, [0] * count)
+
+
 def machine(saved, send, receive, data, notices):
     """A machine of the saved state's fifteen numbers and the four memories."""
     return SimpleNamespace(saved=saved_state(saved), send=send, receive=receive, bytes=data, notices=notices)
@@ -70,7 +76,7 @@ def saved_numbers(state):
 # ---- a machine from outside
 
 def altered(machine, what, name, numbers):
-    """Another machine, with a number or a word set, or a memory resized: what is cut off is lost, what is new is zero."""
+    """Another machine, with a number or words set, or a memory resized: what is cut off is lost, what is new is zero."""
     if name in SAVED:
         state = dict(zip(SAVED, saved_numbers(machine.saved)))
         state[name] = numbers[0]
@@ -78,6 +84,9 @@ def altered(machine, what, name, numbers):
     memory = list(getattr(machine, name))
     if what == 'set':
         memory[numbers[0]] = numbers[1]
+    elif what == 'fill':
+        for at in range(numbers[0], numbers[0] + numbers[1]):
+            memory[at] = numbers[2]
     else:
         memory = (memory + [0] * numbers[0])[:numbers[0]]
     return SimpleNamespace(**{**vars(machine), name: memory})

@@ -9,8 +9,9 @@ RECORD = 192        # bytes of a record of the station program
 PACKET = 168        # bytes of packet in it
 KINDS = {'write': 1, 'read': 2, 'receive': 3, 'send': 4, 'take': 5}
 
-# A record with the line that is expected of it. `place` says where it stands: its number, or the line of a hand-made file.
-Record = namedtuple('Record', 'place data line')
+# A record with the line that is expected of it. `place` says where it stands: its number, or the line of a hand-made file. `lent` is how
+# long a room is lent to a send or take, None where it is the station's.
+Record = namedtuple('Record', 'place data line lent', defaults=[None])
 
 # A raw case: kind and two numbers, the saved state, four memories, packet and notice room; and the bytes expected after it.
 Case = namedtuple('Case', 'number kind first second saved send receive data notices packet room expected')

@@ -74,6 +74,6 @@ pub fn message_notice(packet: &Packet, slot: &Slot, wrong: Option<Wrong>) -> Not
             packet.incarnation() << 24 | offset,
             slot.words[slot::META] | slot.words[slot::MSG_SIZE],
         ],
-        metadata: slot.metadata(),
+        metadata: slot.metadata(wrong),
     }
 }

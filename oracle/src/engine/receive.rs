@@ -131,6 +131,7 @@ impl Machine {
         if self.errs(Wrong::StalledCounts) && !self.can_post(ListIndex::FAULTS) {
             self.saved.faulted = self.saved.faulted.wrapping_add(1);
         }
+        self.need_aqr_if(Wrong::FaultNeedsAqr)?;
         self.need_post(ListIndex::FAULTS, &notice)?;
         let interrupts = self.post(ListIndex::FAULTS, &notice);
         // "faulted those answered fault", "modulo 2^32"
@@ -150,6 +151,7 @@ impl Machine {
             ],
             metadata: [0; 4],
         };
+        self.need_aqr_if(Wrong::AckNeedsAqr)?;
         self.need_post(list, &notice)?;
         if self.errs(Wrong::AckChangesSlot) {
             slot.words[slot::MSG_OFFSET] = packet.offset();
@@ -206,6 +208,15 @@ impl Machine {
             interrupts |= self.push_ack(index.number());
         }
         Ok(interrupts)
+    }
+
+    /// Only a completion with do_acks needs an AQR entry; two mistaken engines ask for more.
+    fn need_aqr_if(&self, mistaken: Wrong) -> Result<(), Reply> {
+        if self.errs(mistaken) && self.saved.aqr.is_full() {
+            Err(Reply::Stalled)
+        } else {
+            Ok(())
+        }
     }
 
     /// "payload to base plus offset".

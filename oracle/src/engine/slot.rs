@@ -69,8 +69,10 @@ impl Slot {
         self.words[BYTES_TO_GO] as i32
     }
 
-    pub fn metadata(&self) -> [u32; 4] {
-        if self.words[META] & META_FLAG != 0 {
+    /// "four metadata words or zeros".
+    pub fn metadata(&self, wrong: Option<Wrong>) -> [u32; 4] {
+        let flag = self.words[META] & META_FLAG != 0;
+        if flag || wrong == Some(Wrong::NoticeOfUnflagged) {
             [0, 1, 2, 3].map(|word| self.words[METADATA + word])
         } else {
             [0; 4]
@@ -82,17 +84,19 @@ impl Slot {
     /// notify, words 4 and 5 below 2^24, word 7 only flag and length."
     pub fn is_valid(&self, data_bytes: u64, wrong: Option<Wrong>) -> bool {
         let end = u64::from(self.words[BASE]) + u64::from(self.words[SIZE]);
-        let reserve_zero = !self.control_has(RESERVE);
+        let passes = |clause: bool, unchecked: Wrong| clause || wrong == Some(unchecked);
+        let [msg_size, msg_offset] = [MSG_SIZE, MSG_OFFSET].map(|word| self.words[word]);
+        let only_flag_and_length = self.words[META] & !META_FLAG_AND_LENGTH == 0;
         self.control_has(VALID)
             && !self.control_has(INDIRECT)
-            && (reserve_zero || wrong == Some(Wrong::ReserveUnchecked))
+            && passes(!self.control_has(RESERVE), Wrong::ReserveUnchecked)
             && end <= data_bytes
             && in_range(i64::from(self.bytes_to_go()))
             && self.ack_note_index() < LISTS
             && (!self.notifies() || self.note_index() < LISTS)
-            && self.words[MSG_SIZE] <= LARGEST_24
-            && self.words[MSG_OFFSET] <= LARGEST_24
-            && self.words[META] & !META_FLAG_AND_LENGTH == 0
+            && passes(msg_size <= LARGEST_24, Wrong::MsgSizeUnchecked)
+            && passes(msg_offset <= LARGEST_24, Wrong::MsgOffsetUnchecked)
+            && passes(only_flag_and_length, Wrong::MetaWordUnchecked)
     }
 
     /// "slot words 7 to 11 go to 0".

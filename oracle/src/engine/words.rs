@@ -102,10 +102,12 @@ impl Machine {
         self.send_ram[from + word] = value;
         if goes {
             self.send_ram[from + BYTES_TO_GO] = value & control1::MSG_SIZE;
-            self.send_ram[from + STATUS2] &= !(status2::STALLED | status2::DONE);
-            if self.errs(Wrong::GoClearsStatus2) {
-                self.send_ram[from + STATUS2] = 0;
-            }
+            let cleared = match self.wrong {
+                Some(Wrong::GoClearsStatus2) => u32::MAX,
+                Some(Wrong::GoKeepsStalled) => status2::DONE,
+                _ => status2::STALLED | status2::DONE,
+            };
+            self.send_ram[from + STATUS2] &= !cleared;
         }
     }
 

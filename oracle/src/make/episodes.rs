@@ -137,10 +137,10 @@ impl Driver<'_> {
         let scenes = self.rng.range(1, 5);
         self.live(scenes, 150);
         match self.rng.below(24) {
-            0..=2 => self.flood_nqr(),
-            3..=4 => self.flood_aqr(),
-            5..=7 => self.flood_nbqr(),
-            8 if self.rng.chance(50) => self.audit(),
+            0..=3 => self.flood_nqr(),
+            4..=6 => self.flood_aqr(),
+            7..=9 => self.flood_nbqr(),
+            10 if self.rng.chance(50) => self.audit(),
             _ => {}
         }
     }

@@ -1,7 +1,7 @@
 //! Queues brought to their full 256 entries by not reading them, and played with there.
 
 use super::driver::Driver;
-use crate::draft::{Draft, DST_NODE, DST_SLOT, INCARNATION, USE_MSG_SIZE};
+use crate::draft::{Draft, ACK_PKT, DST_NODE, DST_SLOT, INCARNATION, USE_MSG_SIZE};
 use crate::engine::layout::{ListIndex, QUEUE_ENTRIES};
 use crate::engine::{Ram, Reply};
 
@@ -33,7 +33,7 @@ impl Driver<'_> {
 
     /// Makes a slot without a buffer, on list 0, that does acks or notifies; returns a packet that
     /// completes a message there at once.
-    fn slot_for_empty_messages(&mut self, slot: u32, does: u32) -> Vec<u8> {
+    fn slot_for_empty_messages(&mut self, slot: u32, does: u32) -> Draft {
         let control = 1 << 15 | does;
         self.put_run(Ram::Receive, 16 * slot as usize, &[0, 0, control]);
         self.put(Ram::Receive, 16 * slot as usize + 6, 0);
@@ -42,7 +42,6 @@ impl Driver<'_> {
             .with(DST_SLOT, slot)
             .with(INCARNATION, self.machine.saved.incarnation())
             .with(USE_MSG_SIZE, 1)
-            .encode()
     }
 
     /// NQR: faults enqueue the token of list 0; its notices are taken, NQR is not read.
@@ -50,7 +49,7 @@ impl Driver<'_> {
         self.prepare_faults(true);
         let slot = self.rng.pick(&self.slots);
         let does = self.rng.pick(&[NOTIFY, NOTIFY | DO_ACKS]);
-        let notifying = self.slot_for_empty_messages(slot, does);
+        let notifying = self.slot_for_empty_messages(slot, does).encode();
         for _ in 0..PATIENCE {
             if self.machine.saved.nqr.length >= QUEUE_ENTRIES - 1 || self.is_over() {
                 break;
@@ -78,8 +77,10 @@ impl Driver<'_> {
         self.prepare_faults(enqueue);
         self.write(0x00C, 64);
         let slot = self.rng.pick(&self.slots);
-        let acking = self.slot_for_empty_messages(slot, DO_ACKS);
+        let completing = self.slot_for_empty_messages(slot, DO_ACKS);
         let both = self.slot_for_empty_messages((slot + 1) % 64, DO_ACKS | NOTIFY);
+        let (acking, both) = (completing.encode(), both.encode());
+        let ack = completing.with(ACK_PKT, 1).encode();
         for _ in 0..PATIENCE {
             if self.machine.saved.aqr.length >= QUEUE_ENTRIES - 2 || self.is_over() {
                 break;
@@ -87,8 +88,12 @@ impl Driver<'_> {
             self.receive(acking.clone());
         }
         self.play(|driver| {
-            let packet = driver.rng.pick(&[&acking, &both]).clone();
+            let packet = driver.rng.pick(&[&acking, &both, &ack]).clone();
             driver.receive(packet);
+            if driver.rng.chance(40) {
+                driver.hand_block();
+                driver.cheap_fault();
+            }
             driver.take_some();
         });
         self.drain(0x018);

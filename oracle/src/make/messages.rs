@@ -96,6 +96,9 @@ impl Driver<'_> {
         }
         if self.rng.chance(50) {
             self.put(Ram::Send, 16 * number + CONTROL1, word | control1::GO);
+            if self.chance_to_look(40) {
+                self.look_at_descriptor(number);
+            }
         }
     }
 

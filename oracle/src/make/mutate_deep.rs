@@ -1,7 +1,7 @@
 //! States changed but mostly left sound: borders, full queues, other lists.
 
 use super::blocks::{any_block, block_count, odd_address};
-use super::mutate_receipt::{bytes_to_go, slot_words, stage_completion};
+use super::mutate_receipt::{bytes_to_go, full_aqr, slot_words, stage_completion};
 use super::planting::{plant_some, stage_last_packet};
 use crate::engine::layout::*;
 use crate::engine::{Machine, Queue, QueueName};
@@ -25,9 +25,10 @@ const ANY: &[(u32, Mutation)] = &[
 
 const RECEIPT: &[(u32, Mutation)] = &[
     (3, bytes_to_go),
-    (6, slot_words),
-    (6, stage_completion),
-    (2, |case, rng| stage_posting(case, rng, ListIndex::FAULTS)),
+    (8, slot_words),
+    (8, stage_completion),
+    (3, full_aqr),
+    (4, |case, rng| stage_posting(case, rng, ListIndex::FAULTS)),
 ];
 
 const SENDING: &[(u32, Mutation)] = &[
@@ -186,4 +187,14 @@ pub fn stage_posting(case: &mut Case, rng: &mut Rng, list: ListIndex) {
         let most = machine.saved.nbqr.length;
         machine.saved.nbqr.length = rng.pick(&[0, 1, 1, 2, 256]).min(most);
     }
+}
+
+/// A list's head set, NBQR not empty, NQR not full: a posting goes, if there are blocks at all.
+pub fn make_room(machine: &mut Machine, rng: &mut Rng, list: ListIndex) {
+    waiting(machine, rng);
+    if block_count(machine) > 0 {
+        machine.receive_ram[list.head_word()] = any_block(machine, rng);
+        machine.saved.nbqr.length = machine.saved.nbqr.length.max(1);
+    }
+    machine.saved.nqr.length = machine.saved.nqr.length.min(QUEUE_ENTRIES - 1);
 }

@@ -1,9 +1,9 @@
 //! Changes of the slot that a received packet addresses.
 
-use super::mutate_deep::{stage_posting, tokens};
+use super::mutate_deep::{make_room, stage_posting, tokens};
 use super::planting::plant_some;
-use crate::draft::{Draft, ACK_PKT, DST_SLOT, MSG_SIZE, OFFSET, USE_MSG_SIZE};
-use crate::engine::layout::{ListIndex, SlotIndex, LARGEST_24, SLOT_WORDS};
+use crate::draft::{Draft, ACK_PKT, DST_SLOT, META_FLAG, META_LEN, MSG_SIZE, OFFSET, USE_MSG_SIZE};
+use crate::engine::layout::{ListIndex, SlotIndex, LARGEST_24, QUEUE_ENTRIES, SLOT_WORDS};
 use crate::raw::Case;
 use crate::rng::Rng;
 
@@ -50,12 +50,19 @@ pub fn stage_completion(case: &mut Case, rng: &mut Rng) {
     let words = &mut case.machine.receive_ram[slot..slot + SLOT_WORDS];
     words[3] = (-change_by(&draft)) as u32;
     words[2] |= rng.below(4) << 12;
+    if rng.chance(70) {
+        any_metadata(words, rng);
+    }
     let number = match draft.get(ACK_PKT) {
         1 => words[6] >> 16,
         _ => words[2] >> 16,
     };
     let list = ListIndex::new(number).unwrap_or(ListIndex::FAULTS);
-    stage_posting(case, rng, list);
+    if rng.chance(40) {
+        make_room(&mut case.machine, rng, list);
+    } else {
+        stage_posting(case, rng, list);
+    }
     let saved = &mut case.machine.saved;
     if rng.chance(60) {
         saved.aqr.length = rng.pick(&[0, 0, 1, 255, 256, 256]);
@@ -69,6 +76,35 @@ pub fn stage_completion(case: &mut Case, rng: &mut Rng) {
     }
 }
 
+/// AQR full, but room for a notice: more than that neither an ack packet needs nor a fault.
+pub fn full_aqr(case: &mut Case, rng: &mut Rng) {
+    let mut list = ListIndex::FAULTS;
+    if let Some((draft, slot)) = addressed(case).filter(|_| rng.chance(60)) {
+        case.rooms.packet = ack_of(draft).encode();
+        let number = case.machine.receive_ram[slot + 6] >> 16;
+        list = ListIndex::new(number).unwrap_or(list);
+    }
+    case.machine.saved.aqr.length = QUEUE_ENTRIES;
+    make_room(&mut case.machine, rng, list);
+}
+
+/// The packet as an ack packet: "ack is 20 bytes".
+fn ack_of(mut draft: Draft) -> Draft {
+    draft.set(ACK_PKT, 1);
+    draft.set(META_FLAG, 0);
+    draft.set(META_LEN, 0);
+    draft.payload.clear();
+    draft
+}
+
+/// Words 7 to 11: any metadata, with the flag or without it.
+fn any_metadata(slot: &mut [u32], rng: &mut Rng) {
+    slot[7] = rng.below(16) << 24;
+    for word in &mut slot[8..12] {
+        *word = rng.word();
+    }
+}
+
 /// The addressed slot's other words.
 pub fn slot_words(case: &mut Case, rng: &mut Rng) {
     let (draft, slot) = match addressed(case) {
@@ -79,7 +115,7 @@ pub fn slot_words(case: &mut Case, rng: &mut Rng) {
     let offset = draft.get(OFFSET);
     let length = case.machine.data.len() as u32;
     let words = &mut case.machine.receive_ram[slot..slot + SLOT_WORDS];
-    match rng.below(12) {
+    match rng.below(18) {
         // "offset above buffer size", "offset plus payload above it"
         0 => words[1] = rng.pick(&[offset, offset.wrapping_sub(1), offset + payload]),
         1 => words[1] = (offset + payload).wrapping_sub(rng.range(1, 4)),
@@ -90,14 +126,12 @@ pub fn slot_words(case: &mut Case, rng: &mut Rng) {
         6 => words[2] = words[2] & 0xFFFF | rng.pick(&[63, 64, 0xFFFF]) << 16,
         7 => words[6] = rng.pick(&[63, 64, 0xFFFF]) << 16 | rng.word() & 0xFFFF,
         // "words 4 and 5 below 2^24"
-        8..=9 => words[rng.pick(&[4, 5])] = rng.pick(&[LARGEST_24, LARGEST_24 + 1, u32::MAX]),
-        // "word 7 only flag and length"
-        10 => words[7] = 1 << rng.below(32),
-        _ => {
-            words[7] = rng.below(16) << 24;
-            for word in &mut words[8..12] {
-                *word = rng.word();
-            }
+        8..=13 => {
+            let beyond = 1 << rng.range(24, 31);
+            words[rng.pick(&[4, 5])] = rng.pick(&[LARGEST_24, beyond, beyond, u32::MAX]);
         }
+        // "word 7 only flag and length"
+        14..=15 => words[7] = 1 << rng.below(32),
+        _ => any_metadata(words, rng),
     }
 }

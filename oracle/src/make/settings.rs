@@ -26,6 +26,7 @@ impl Driver<'_> {
         let count = match self.rng.below(16) {
             0 => self.rng.below(9),
             1 => self.rng.pick(&[1, 63, 65]),
+            2 => self.count_near_a_slot(),
             _ => SLOTS,
         };
         self.write(0x00C, count);
@@ -148,9 +149,8 @@ impl Driver<'_> {
 
     /// The slot count: mostly such that this episode's slots remain in it.
     pub fn write_slot_count(&mut self) {
-        let near = self.rng.pick(&self.slots) + self.rng.below(2);
         let count = match self.rng.below(8) {
-            0 => near,
+            0 => self.count_near_a_slot(),
             1 => self.rng.pick(&[0, 1, 63, 65, 66, u32::MAX, 1 << 31]),
             _ => SLOTS,
         };
@@ -158,6 +158,11 @@ impl Driver<'_> {
         if self.chance_to_look(50) {
             self.read(0x00C);
         }
+    }
+
+    /// "slot at or above the count": one of this episode's slots is the count, or just below it.
+    fn count_near_a_slot(&mut self) -> u32 {
+        self.rng.pick(&self.slots) + self.rng.below(2)
     }
 
     pub fn write_list(&mut self) {
