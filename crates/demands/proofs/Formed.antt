@@ -20,7 +20,7 @@ use Rattle.rules.specs.Memory.{noMetadata, metadataWords}
 use Rattle.rules.specs.Checksum.{checkOf}
 use Rattle.rules.specs.Packet.{headerBytes, metadataBytes, checkWord, bodyCheckBytes, frontBytes, form, headerOf, payloadFrom, payloadLength, payloadOf, metadataOf, lengthOk, isPacket, headerChecks, bodyChecks}
 use Rattle.demands.specs.Types.{Metadata, Header}
-use Rattle.demands.specs.Demands.{Below}
+use Rattle.demands.specs.Fields.{Below}
 use Rattle.demands.proofs.Packets.{check-lt, body-some}
 
 -- What a packet can be formed of.
@@ -117,11 +117,11 @@ module _ (h : Header) (m : Metadata) (p : List ℕ) where
   unfolding frontBytes
   front-length = omega (arith, metadata-length)
 
-  pub form-length : length (form h m p) ≡ from + (length p + length (bodyCheckBytes p))
+  form-length : length (form h m p) ≡ from + (length p + length (bodyCheckBytes p))
   form-length =
       ap length whole ∙ length-append front (p ++ bodyCheckBytes p) ∙ ap₂ _+_ front-length (length-append p (bodyCheckBytes p))
 
-  payload-length : payloadLength (form h m p) ≡ length p
+  pub payload-length : payloadLength (form h m p) ≡ length p
   payload-length = ap₂ (λ (x y : ℕ). x - y - 4) form-length from-back ∙ left from (length p) (length (bodyCheckBytes p)) (ends p)
 
   pub payload-back : payloadOf (form h m p) ≡ p

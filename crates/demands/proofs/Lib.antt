@@ -10,6 +10,8 @@ pub mod Answers
 -- ---- packets
 pub mod Packets
 pub mod Formed
+pub mod Packed
+pub mod AnyFields
 -- ---- blocks: the view of a machine, and what each call makes of it
 pub mod Sums
 pub mod Pigeons

@@ -2,20 +2,18 @@
 use Prim.Native.Nat.{_<_, _≤_}
 use mathlib.Core.Path.{_≡_}
 use mathlib.Core.Logic.{_≢_}
-use Rattle.ground.specs.Choice.{pick}
-use Rattle.rules.specs.Types.{ℕ, _%_, _^_, true, List, [], _++_, length, getD}
-use Rattle.rules.specs.Words.{metaFlag}
-use Rattle.rules.specs.Memory.{Machine, withSend, descriptors, lists, noMetadata}
-use Rattle.rules.specs.Saved.{ownNode}
-use Rattle.rules.specs.Packet.{form, headerOf, metadataOf, payloadOf, wellFormed}
-use Rattle.rules.specs.Sending.{descriptorAt, isActive, nextHeader, nextBytes, nextSender, markStalled}
+use Rattle.rules.specs.Types.{ℕ, _%_, _^_, true, List, [], _++_, length}
+use Rattle.rules.specs.Memory.{Machine, withSend, descriptors, lists}
+use Rattle.rules.specs.Packet.{packetOf, wellFormed}
+use Rattle.rules.specs.Sending.{descriptorAt, isActive, nextSender, markStalled}
 use Rattle.rules.specs.Sound.{isSized, isSound}
 use Rattle.rules.specs.Replies.{Outcome}
 use Rattle.rules.specs.Calls.{Call, writes, reads, receives, sends, takes, unknown, perform, packetFrom}
-use Rattle.demands.specs.Types.{DescriptorIndex, Descriptor, Found}
+use Rattle.demands.specs.Types.{DescriptorIndex, Found}
 use Rattle.demands.specs.Runs.{Run, AtEachMoment, after}
 use Rattle.demands.specs.History.{begun, AfterReset, answers, handed, posted, taken}
 use Rattle.demands.specs.Places.{count, standing, found}
+use Rattle.demands.specs.Fields.{Below, Fields, layout, Allowed, fieldsOf, sentFields}
 
 -- ---- demand 1: "a refusal alters nothing but the stalled mark that 01 names"
 
@@ -43,25 +41,28 @@ pub record RefusalsAlterNothing : Type 0 where
 
 -- ---- demand 2
 
--- Each number of a row is below n.
-abbrev pub Below : ℕ → List ℕ → Type 0
-Below n xs = (i : ℕ) → getD xs i 0 < n
-
--- A packet is well formed, and gives back what it was formed of; without the flag its metadata are zeros.
-pub record ReadAs (m : Machine) (d : Descriptor) (packet : List ℕ) : Type 0 where
+-- A packet is the layout of these fields, is well formed, and is read as them; the steps have the payload's length besides.
+pub record ReadAs (f : Fields) (packet : List ℕ) : Type 0 where
+  pub laid-out : packet ≡ layout f
   pub well-formed : wellFormed packet ≡ true
-  pub header : headerOf packet ≡ nextHeader (ownNode (m .saved .pcsr0)) d
-  pub metadata : metadataOf packet ≡ pick (metaFlag (d .control1)) (d .metadata) noMetadata
-  pub payload : payloadOf packet ≡ nextBytes d (m .send) (m .bytes)
+  pub fields : fieldsOf packet ≡ f
+  pub payload-length : packetOf packet .payloadlength ≡ length (f .payload)
 
--- "What the sender forms the receiver reads back field for field".
+-- "What the sender forms, the receiver reads back field for field": what an active descriptor sends is the layout of its fields, and so is
+-- any packet of fields that 01 allows.
 pub record ReadBack : Type 0 where
-  pub holds : (m : Machine) (i : DescriptorIndex) → Below (2 ^ 32) (m .send) → Below 256 (m .bytes) → isSized m ≡ true → isSound m ≡ true
-      → i .0 < descriptors → isActive (descriptorAt (m .send) i) ≡ true → ReadAs m (descriptorAt (m .send) i) (packetFrom m i)
+  pub sent : (m : Machine) (i : DescriptorIndex) → Below (2 ^ 32) (m .send) → Below 256 (m .bytes) → isSized m ≡ true → isSound m ≡ true
+      → i .0 < descriptors → isActive (descriptorAt (m .send) i) ≡ true → ReadAs (sentFields m (descriptorAt (m .send) i)) (packetFrom m i)
+  pub any : (f : Fields) → Allowed f → ReadAs f (layout f)
 
--- "and each packet it passes as well formed is to the byte what 01's layout gives for those fields".
+-- The fields read of a packet are allowed, and their layout is the packet.
+pub record LaidOut (packet : List ℕ) : Type 0 where
+  pub allowed : Allowed (fieldsOf packet)
+  pub to-the-byte : layout (fieldsOf packet) ≡ packet
+
+-- "and each packet it passes as well formed is, to the byte, what 01's packet layout gives for those fields".
 pub record OnlyFormed : Type 0 where
-  pub holds : (s : List ℕ) → Below 256 s → wellFormed s ≡ true → form (headerOf s) (metadataOf s) (payloadOf s) ≡ s
+  pub holds : (s : List ℕ) → Below 256 s → wellFormed s ≡ true → LaidOut s
 
 -- "it also fixes both packet counts from the calls made", modulo 2^32.
 pub record PacketCounts : Type 0 where

@@ -3,4 +3,5 @@ pub mod Types
 pub mod Runs
 pub mod History
 pub mod Places
+pub mod Fields
 pub mod Demands

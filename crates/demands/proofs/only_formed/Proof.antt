@@ -1,7 +1,8 @@
--- `demands::only_formed` meets its contract: a well-formed packet is formed of what is read of it, part by part. Assumes nothing.
-use Prim.Native.Nat.{ℕ, _+_, _-_, _*_, _%_, _^_, _<_, _≤_}
+-- `demands::only_formed` meets its contract: a well-formed packet is formed of what is read of it, part by part, and so laid out of its fields,
+-- which are allowed. Assumes nothing.
+use Prim.Native.Nat.{ℕ, zero, suc, _+_, _-_, _*_, _%_, _^_, _<_, _≤_}
 use mathlib.Core.Path.{_≡_, refl, sym, ap, _∙_}
-use mathlib.Core.Bool.{Bool, true, false, _&&_, _||_}
+use mathlib.Core.Bool.{Bool, true, false, not, _&&_, _||_}
 use mathlib.Core.List.{List, [], _∷_, _++_, append-assoc}
 use native.Mathlib.Omega.{arith}
 use native.Mathlib.Decide.{decLt, ℕ-discrete}
@@ -13,38 +14,54 @@ use Rattle.ground.specs.Bytes.{wordAt, bytesOf, toBytes}
 use Rattle.ground.specs.Choice.{pick}
 use Rattle.ground.specs.Field.{field}
 use Rattle.ground.specs.Lists.{part}
-use Rattle.ground.proofs.Bytes.{Bytes, word-fits, bytes-part, bytes-words}
-use Rattle.ground.proofs.Lists.{length-part}
-use Rattle.ground.proofs.Tests.{and-left, and-right, or-first, or-second}
+use Rattle.ground.proofs.Bytes.{Bytes, word-fits, bytes-part, wordsAt, bytes-words}
+use Rattle.ground.proofs.Choice.{pick-no, pick-holds}
+use Rattle.ground.proofs.Field.{field-lt}
+use Rattle.ground.proofs.Lists.{length-part, part-holds}
+use Rattle.ground.proofs.Tests.{and-left, and-right, or-first, or-second, not-no}
+use Rattle.rules.specs.Words.{isAckPkt, metaFlag, metaCount, metaOk}
 use Rattle.rules.specs.Memory.{noMetadata, metadataWords}
 use Rattle.rules.specs.Checksum.{checkOf}
 use Rattle.rules.specs.Packet.{headerBytes, metadataBytes, checkWord, bodyCheckBytes, frontBytes, form, headerOf, flagged, payloadFrom, payloadLength, payloadOf, metadataOf, packetOf, lengthOk, headerChecks, fieldsOk, bodyChecks, wellFormed}
+use Rattle.demands.specs.Types.{Metadata, Header}
+use Rattle.demands.specs.Fields.{Below, layout, Within, Allowed, fieldsIn, fieldsOf}
 use Rattle.demands.proofs.Judged.{tests}
 use Rattle.demands.proofs.Packets.{body-some}
+use Rattle.demands.proofs.Packed.{Made, laid-formed, words-made, none-fit}
 use Rattle.demands.proofs.only_formed.Statement.{statement}
 use Rattle.demands.proofs.only_formed.Tie as tie
 
--- A packet's length reaches the payload; past it stands nothing, or a payload and a word.
+-- A packet's length reaches the payload; past it stands nothing, or a payload that 01 allows and a word.
 record Long (from n : ℕ) : Type 0 where
   plain : 20 ≤ from
   least : from ≤ n
   empty : n - from - 4 ≡ 0 → n ≡ from
+  most : n - from - 4 ≤ 128
+  fours : (n - from - 4) % 4 ≡ 0
 
 -- It is just that, or long enough for both.
-long-by : (from n : ℕ) (b : Bool) → 20 ≤ from → (eqb n from || (leb (from + 8) n && b)) ≡ true → Long from n
-long-by from n b p h = go (ℕ-discrete n from)
+long-by : (from n : ℕ) → 20 ≤ from → from % 4 ≡ 0 → n % 4 ≡ 0 → (eqb n from || (leb (from + 8) n && leb n (from + 132))) ≡ true → Long from n
+long-by from n p z e h = go (ℕ-discrete n from)
   where
     go : Dec (n ≡ from) → Long from n
-    go (yes e) = record { plain = p; least = omega arith; empty = λ z. e }
+    go (yes e) = record { plain = p; least = omega arith; empty = λ z. e; most = omega arith; fours = omega arith }
     go (no d) =
-        let l : from + 8 ≤ n = leb-true (from + 8) n (and-left (leb (from + 8) n) b (or-second (eqb n from) _ h (ne-eqb n from d))) in
-        record { plain = p; least = omega arith; empty = omega arith }
+        let both : (leb (from + 8) n && leb n (from + 132)) ≡ true = or-second (eqb n from) _ h (ne-eqb n from d) in
+        let l : from + 8 ≤ n = leb-true (from + 8) n (and-left (leb (from + 8) n) _ both) in
+        let u : n ≤ from + 132 = leb-true n (from + 132) (and-right (leb (from + 8) n) _ both) in
+        record { plain = p; least = omega arith; empty = omega arith; most = omega arith; fours = omega arith }
 
 -- By the rule.
 long : (f : Bool) (n : ℕ) → lengthOk f n ≡ true → Long (pick f 36 20) n
 unfolding pick
-long true n h = long-by 36 n (leb n 168) (omega arith) (search tests)
-long false n h = long-by 20 n (leb n 152) (omega arith) (or-first _ false (and-right (eqb (n % 4) 0) _ h) refl)
+long true n h = long-by 36 n (omega arith) refl (eqb-true (n % 4) 0 (search tests)) (search tests)
+long false n h = long-by 20 n (omega arith) refl (eqb-true (n % 4) 0 (search tests)) (or-first _ false (and-right (eqb (n % 4) 0) _ h) refl)
+
+-- Words of bytes fit 32 bits.
+words-fit : (s : List ℕ) (i k : ℕ) → Bytes s → Below (2 ^ 32) (wordsAt s i k)
+words-fit s i zero b j = omega arith
+words-fit s i (suc k) b zero = word-fits s i b
+words-fit s i (suc k) b (suc j) = words-fit s (i + 4) k b j
 
 -- The metadata's bytes, by the flag.
 metadata-by : (s : List ℕ) (f : Bool) → Bytes s → pick f 36 20 ≤ length s
@@ -121,8 +138,66 @@ module _ (s : List ℕ) (b : Bytes s) (well : wellFormed s ≡ true) where
       ∙ (λ i. head i ++ body (decLt 0 (payloadLength s)) i)
       ∙ take-append-drop at s
 
+  -- ---- its fields
+
+  -- Words 0 to 3 are packed of them, since their zeros are 0.
+  made : Made (fieldsOf s) (headerOf s)
+  unfolding wellFormed fieldsOk packetOf fieldsOf
+  made =
+      words-made (headerOf s) (metadataOf s) (payloadOf s) (words-fit s 0 4 b)
+      (eqb-true _ _ (search tests depth 20))
+      (eqb-true _ _ (search tests depth 20))
+      (eqb-true _ _ (search tests depth 20))
+
+  -- So the layout is the packet.
+  laid : layout (fieldsOf s) ≡ s
+  unfolding fieldsOf fieldsIn packetOf
+  laid = laid-formed (fieldsOf s) (headerOf s) made ∙ formed
+
+  -- The metadata fit, zeros too.
+  metadata-fits : Below (2 ^ 32) (metadataWords (metadataOf s))
+  unfolding metadataOf
+  metadata-fits = pick-holds (λ (m : Metadata). Below (2 ^ 32) (metadataWords m)) (flagged s) (words-fit s 20 4 b) none-fit
+
+  -- Each is within its width.
+  within : Within (fieldsOf s)
+  unfolding fieldsOf fieldsIn packetOf
+  within =
+      let h : Header = headerOf s in
+      record {
+        fabtop = field-lt 28 4 (h .address0);
+        dstnode = field-lt 16 12 (h .address0);
+        fablow = field-lt 0 16 (h .address0);
+        dstslot = field-lt 16 16 (h .address1);
+        srcnode = field-lt 4 12 (h .address1);
+        incarnation = field-lt 24 4 (h .control0);
+        offset = field-lt 0 24 (h .control0);
+        metalen = field-lt 24 3 (h .control1);
+        msgsize = field-lt 0 24 (h .control1);
+        metadata = metadata-fits;
+        payload = part-holds (λ (x : ℕ). x < 256) (payloadFrom s) (payloadLength s) s 0 (omega arith) b;
+      }
+
+  -- And they are what 01 asks.
+  allowed : Allowed (fieldsOf s)
+  unfolding wellFormed fieldsOk packetOf fieldsOf fieldsIn metadataOf
+  allowed =
+      let w : ℕ = wordAt s 12 in
+      let size : length (payloadOf s) ≡ payloadLength s = length-part (payloadFrom s) (payloadLength s) s (omega (arith, l)) in
+      let meta : metaOk w ≡ true = search tests depth 20 in
+      let ack : (not (isAckPkt (wordAt s 8)) || eqb (length s) 20) ≡ true = search tests depth 20 in
+      record {
+        within = within;
+        most = omega (arith, l);
+        fours = omega (arith, l);
+        len = omega (arith, leb-true (metaCount w) 4 (search tests));
+        no-len = λ e. eqb-true (metaCount w) 0 (or-second (metaFlag w) _ (search tests) e);
+        no-metadata = λ e. pick-no _ noMetadata e;
+        ack = λ e. ap length laid ∙ eqb-true (length s) 20 (or-second (not (isAckPkt (wordAt s 8))) _ ack (not-no e));
+      }
+
 returns : tie.Need-returns
-returns c = record { holds = formed }
+returns c = record { holds = λ s b well. record { allowed = allowed s b well; to-the-byte = laid s b well } }
 
 pub only-formed-spec : {M : Type 1} → statement M
 only-formed-spec = tie.close (tie.spec returns)

@@ -1,32 +1,33 @@
--- `demands::read_back` meets its contract: the go rule lets a descriptor form only what is well formed. Assumes nothing.
+-- `demands::read_back` meets its contract: the go rule lets a descriptor send only fields that are allowed, laid out. Assumes nothing.
 use Prim.Native.Nat.{ℕ, zero, suc, _+_, _*_, _/_, _%_, _^_, min, _<_, _≤_}
 use mathlib.Core.Path.{_≡_, refl, sym, ap, _∙_}
 use mathlib.Core.Bool.{Bool, true, false, not, _&&_, _||_}
-use mathlib.Core.List.{List, [], _∷_}
+use mathlib.Core.List.{List, [], _∷_, _++_}
 use native.Mathlib.Omega.{arith}
 use lib.Dec.{eqb, leb}
 use lib.ListN.{length}
-use borrow.Author.Tests.{eqb-true, leb-true, eq-eqb, not-true}
-use Rattle.ground.specs.Bytes.{wordAt, toBytes}
+use borrow.Author.Tests.{eqb-true, leb-true, not-true}
+use Rattle.ground.specs.Bytes.{toBytes}
 use Rattle.ground.specs.Choice.{pick}
-use Rattle.ground.specs.Field.{field}
 use Rattle.ground.specs.Lists.{part}
 use Rattle.ground.proofs.Bytes.{Bytes, row-length, bytes-row}
-use Rattle.ground.proofs.Choice.{pick-holds}
-use Rattle.ground.proofs.Field.{field-field}
+use Rattle.ground.proofs.Choice.{pick-no, pick-holds}
+use Rattle.ground.proofs.Field.{field-lt, field-field, pack-unpack, bit-flag}
 use Rattle.ground.proofs.Lists.{length-part, part-holds}
-use Rattle.ground.proofs.Tests.{and-left, and-right, and-both, or-first, or-second, not-no}
+use Rattle.ground.proofs.Tests.{and-left, and-right, or-first, or-second, not-no}
 use Rattle.rules.specs.Words.{isAckPkt, isDirectIo, isControlPkt, metaFlag, metaCount, metaOk}
 use Rattle.rules.specs.Memory.{Machine, descriptors, noMetadata, metadataWords}
 use Rattle.rules.specs.Saved.{ownNode}
-use Rattle.rules.specs.Packet.{form, headerOf, payloadLength, payloadOf, metadataOf, packetOf, fieldsOk, wellFormed}
+use Rattle.rules.specs.Packet.{headerBytes, metadataBytes, checkWord, bodyCheckBytes, frontBytes, form}
 use Rattle.rules.specs.Sending.{descriptorAt, isActive, addressOk, messageSizeOk, goRule, nextPayload, nextBytes, nextHeader, nextPacket}
 use Rattle.rules.specs.Sound.{isSized, isSound}
 use Rattle.rules.specs.Calls.{packetFrom}
-use Rattle.demands.specs.Types.{DescriptorIndex, Descriptor, Header}
-use Rattle.demands.specs.Demands.{Below, ReadAs}
+use Rattle.demands.specs.Types.{DescriptorIndex, Metadata, Descriptor, Header}
+use Rattle.demands.specs.Fields.{Below, Fields, word0, word1, word2, word3, layout, Within, Allowed, sentFields}
+use Rattle.demands.specs.Demands.{ReadAs}
 use Rattle.demands.proofs.Judged.{tests, Fit, fit}
-use Rattle.demands.proofs.Formed.{Fits, header-back, check-back, metadata-back, form-length, payload-back, packet-back, header-checked, body-checked}
+use Rattle.demands.proofs.Packed.{Made, laid-formed, plain-length, control0-made, none-fit}
+use Rattle.demands.proofs.AnyFields.{any-read}
 use Rattle.demands.proofs.read_back.Statement.{statement}
 use Rattle.demands.proofs.read_back.Tie as tie
 
@@ -55,20 +56,25 @@ module _ (send bytes : List ℕ) (words : Below (2 ^ 32) send) (inside : Below 2
       let n : length ws ≡ min 128 size / 4 = length-part (at / 4) (min 128 size / 4) send (omega arith) in
       record { bytes = bytes-row ws (part-holds (λ x. x < 2 ^ 32) (at / 4) (min 128 size / 4) send 0 (omega arith) words); most = omega (arith, row-length ws); fours = omega (arith, row-length ws) }
 
--- A descriptor's words and data, where the go rule holds.
-module _ (send bytes : List ℕ) (words : Below (2 ^ 32) send) (inside : Below 256 bytes) (i : DescriptorIndex) where
-  d : Descriptor
-  d = descriptorAt send i
+-- Metadata that are not sent are not in the packet.
+unsent : (b : Bool) (m : Metadata) → pick b (toBytes (metadataWords (pick b m noMetadata))) [] ≡ pick b (toBytes (metadataWords m)) []
+unfolding pick
+unsent true m = refl
+unsent false m = refl
 
-  -- Its words fit 32 bits.
-  header-fits : (node : ℕ) → node ≤ 4095
-      → let h = nextHeader node d in Below (2 ^ 32) (h .address0 ∷ h .address1 ∷ h .control0 ∷ h .control1 ∷ [])
-  unfolding d descriptorAt nextHeader
-  header-fits node n zero = words _
-  header-fits node n (suc zero) = omega arith
-  header-fits node n (suc (suc zero)) = words _
-  header-fits node n (suc (suc (suc zero))) = omega arith
-  header-fits node n (suc (suc (suc (suc k)))) = omega arith
+-- A descriptor of a machine whose memories are words and bytes.
+module _ (m : Machine) (words : Below (2 ^ 32) (m .send)) (inside : Below 256 (m .bytes)) (i : DescriptorIndex) where
+  d : Descriptor
+  d = descriptorAt (m .send) i
+
+  p : List ℕ
+  p = nextBytes d (m .send) (m .bytes)
+
+  f : Fields
+  f = sentFields m d
+
+  h : Header
+  h = nextHeader (ownNode (m .saved .pcsr0)) d
 
   metadata-fits : Below (2 ^ 32) (metadataWords (d .metadata))
   unfolding d descriptorAt
@@ -78,110 +84,110 @@ module _ (send bytes : List ℕ) (words : Below (2 ^ 32) send) (inside : Below 2
   metadata-fits (suc (suc (suc zero))) = words _
   metadata-fits (suc (suc (suc (suc k)))) = omega arith
 
-  module _ (size : length send ≡ 1024) (rule : goRule d (d .control1) (d .bytestogo) (length bytes) ≡ true) where
+  -- A control packet has no payload.
+  no-bytes : isControlPkt (d .control1) ≡ true → p ≡ []
+  unfolding p nextBytes nextPayload pick
+  no-bytes e = rw e (pick-holds (λ p. p ≡ []) (isDirectIo (d .control1)) refl refl)
+
+  module _ (size : length (m .send) ≡ 1024) (node : ownNode (m .saved .pcsr0) ≤ 4095) (rule : goRule d (d .control1) (d .bytestogo) (length (m .bytes)) ≡ true) where
     -- What the go rule lets be sent.
-    payload : Payload (nextBytes d send bytes)
-    unfolding nextBytes nextPayload goRule messageSizeOk pick
+    payload : Payload p
+    unfolding p nextBytes nextPayload goRule messageSizeOk pick
     payload = go (isControlPkt (d .control1)) refl (isDirectIo (d .control1)) refl
       where
-        by : (x : Bool) → addressOk x (d .msgaddress) (d .bytestogo) (length bytes) ≡ true → d .bytestogo % 4 ≡ 0
-            → Payload (pick x (toBytes (part (d .msgaddress / 4) (min 128 (d .bytestogo) / 4) send)) (part (d .msgaddress) (min 128 (d .bytestogo)) bytes))
+        by : (x : Bool) → addressOk x (d .msgaddress) (d .bytestogo) (length (m .bytes)) ≡ true → d .bytestogo % 4 ≡ 0
+            → Payload (pick x (toBytes (part (d .msgaddress / 4) (min 128 (d .bytestogo) / 4) (m .send))) (part (d .msgaddress) (min 128 (d .bytestogo)) (m .bytes)))
         by true r z =
-            from-words send bytes words inside (d .msgaddress) (d .bytestogo) z (eqb-true (d .msgaddress % 4) 0 (search tests))
+            from-words (m .send) (m .bytes) words inside (d .msgaddress) (d .bytestogo) z (eqb-true (d .msgaddress % 4) 0 (search tests))
             (omega (arith, size, leb-true (d .msgaddress + d .bytestogo) 4096 (search tests)))
         by false r z =
-            from-data send bytes words inside (d .msgaddress) (d .bytestogo) z
-            (leb-true (d .msgaddress + d .bytestogo) (length bytes) (or-first (leb (d .msgaddress + d .bytestogo) (length bytes)) false r refl))
+            from-data (m .send) (m .bytes) words inside (d .msgaddress) (d .bytestogo) z
+            (leb-true (d .msgaddress + d .bytestogo) (length (m .bytes)) (or-first (leb (d .msgaddress + d .bytestogo) (length (m .bytes))) false r refl))
 
         go : (c : Bool) → isControlPkt (d .control1) ≡ c → (x : Bool) → isDirectIo (d .control1) ≡ x
-            → Payload (pick x (toBytes (part (d .msgaddress / 4) (pick c 0 (min 128 (d .bytestogo)) / 4) send)) (part (d .msgaddress) (pick c 0 (min 128 (d .bytestogo))) bytes))
+            → Payload (pick x (toBytes (part (d .msgaddress / 4) (pick c 0 (min 128 (d .bytestogo)) / 4) (m .send))) (part (d .msgaddress) (pick c 0 (min 128 (d .bytestogo))) (m .bytes)))
         go true e x f = pick-holds Payload x no-payload no-payload
         go false e x f =
-            let ok : messageSizeOk d (d .control1) (d .bytestogo) (length bytes) ≡ true =
-            or-second (isControlPkt (d .control1)) (messageSizeOk d (d .control1) (d .bytestogo) (length bytes)) (search tests) e in
-            let r : addressOk (isDirectIo (d .control1)) (d .msgaddress) (d .bytestogo) (length bytes) ≡ true = search tests in
-            by x (ap (λ (t : Bool). addressOk t (d .msgaddress) (d .bytestogo) (length bytes)) (sym f) ∙ r) (eqb-true (d .bytestogo % 4) 0 (search tests))
+            let ok : messageSizeOk d (d .control1) (d .bytestogo) (length (m .bytes)) ≡ true =
+            or-second (isControlPkt (d .control1)) (messageSizeOk d (d .control1) (d .bytestogo) (length (m .bytes))) (search tests) e in
+            let r : addressOk (isDirectIo (d .control1)) (d .msgaddress) (d .bytestogo) (length (m .bytes)) ≡ true = search tests in
+            by x (ap (λ (t : Bool). addressOk t (d .msgaddress) (d .bytestogo) (length (m .bytes))) (sym f) ∙ r) (eqb-true (d .bytestogo % 4) 0 (search tests))
 
-    -- A control packet has no payload.
-    no-bytes : isControlPkt (d .control1) ≡ true → nextBytes d send bytes ≡ []
-    unfolding nextBytes nextPayload pick
-    no-bytes e = rw e (pick-holds (λ p. p ≡ []) (isDirectIo (d .control1)) refl refl)
+    -- The fields are within their widths.
+    within : Within f
+    unfolding f sentFields p
+    within =
+        record {
+          fabtop = field-lt 28 4 (d .address0);
+          dstnode = field-lt 16 12 (d .address0);
+          fablow = field-lt 0 16 (d .address0);
+          dstslot = field-lt 16 16 (d .address1);
+          srcnode = omega arith;
+          incarnation = field-lt 24 4 (d .control0);
+          offset = field-lt 0 24 (d .control0);
+          metalen = field-lt 24 3 (d .control1);
+          msgsize = field-lt 0 24 (d .control1);
+          metadata = pick-holds (λ (x : Metadata). Below (2 ^ 32) (metadataWords x)) (metaFlag (d .control1)) metadata-fits none-fit;
+          payload = payload .bytes;
+        }
 
-    module _ (node : ℕ) (few : node ≤ 4095) where
-      h : Header
-      h = nextHeader node d
+    -- The go rule lets no others be sent; of an ack neither metadata nor a payload, so that it "is 20 bytes".
+    allowed : Allowed f
+    unfolding f sentFields p goRule
+    allowed =
+        let c : ℕ = d .control1 in
+        let ack : (not (isAckPkt (d .control0)) || (isControlPkt c && not (metaFlag c))) ≡ true = search tests depth 20 in
+        let meta : metaOk c ≡ true = search tests depth 20 in
+        record {
+          within = within;
+          most = payload .most;
+          fours = payload .fours;
+          len = omega (arith, leb-true (metaCount c) 4 (search tests));
+          no-len = λ e. eqb-true (metaCount c) 0 (or-second (metaFlag c) _ (search tests) e);
+          no-metadata = λ e. pick-no _ noMetadata e;
+          ack =
+              λ e.
+              let o : (isControlPkt c && not (metaFlag c)) ≡ true = or-second (not (isAckPkt (d .control0))) _ ack (not-no e) in
+              plain-length f (not-true _ (and-right (isControlPkt c) _ o)) (no-bytes (and-left (isControlPkt c) _ o));
+        }
 
-      s : List ℕ
-      s = form h (d .metadata) (nextBytes d send bytes)
+    -- The words that are sent are packed of them.
+    made : Made f h
+    unfolding f h sentFields nextHeader d descriptorAt goRule word0 word1 word2 word3
+    made =
+        record {
+          address0 = pack-unpack (4 ∷ 12 ∷ 16 ∷ []) (d .address0) (words _);
+          address1 = omega arith;
+          control0 = control0-made (d .control0) (words _) (eqb-true _ _ (search tests depth 20));
+          control1 = rw (bit-flag 27 (d .control1)) (omega arith);
+          flag = sym (ap (λ (x : ℕ). eqb x 1) (field-field 27 1 0 0 (d .control1)));
+        }
 
-      fits : Fits h (d .metadata) (nextBytes d send bytes)
-      unfolding h
-      fits = record { header = header-fits node few; metadata = metadata-fits; payload = payload .bytes; most = payload .most; fours = payload .fours }
+    -- So the packet is their layout.
+    sent-laid : packetFrom m i ≡ layout f
+    unfolding packetFrom nextPacket form frontBytes metadataBytes f sentFields d h p
+    sent-laid =
+        let e : metadataBytes h (f .metadata) ≡ metadataBytes h (d .metadata) =
+        (λ j. pick (sym (made .flag) j) (toBytes (metadataWords (f .metadata))) [])
+        ∙ unsent (metaFlag (d .control1)) (d .metadata)
+        ∙ (λ j. pick (made .flag j) (toBytes (metadataWords (d .metadata))) []) in
+        sym
+        (laid-formed f h made
+        ∙ (λ j. headerBytes h ++ toBytes (checkWord (headerBytes h ++ e j) ∷ []) ++ e j ++ p ++ bodyCheckBytes p))
 
-      -- The flag goes into the packet.
-      flag : metaFlag (h .control1) ≡ metaFlag (d .control1)
-      unfolding h nextHeader
-      flag = ap (λ (x : ℕ). eqb x 1) (field-field 27 1 0 0 (d .control1))
-
-      -- "ack is 20 bytes": the go rule lets an ack have no metadata and no payload.
-      ack : (not (isAckPkt (h .control0)) || eqb (length s) 20) ≡ true
-      unfolding h nextHeader goRule s pick
-      ack = go (isAckPkt (d .control0)) refl
-        where
-          go : (a : Bool) → isAckPkt (d .control0) ≡ a → (not a || eqb (length s) 20) ≡ true
-          go true e =
-              let o : (isControlPkt (d .control1) && not (metaFlag (d .control1))) ≡ true =
-              or-second (not (isAckPkt (d .control0))) (isControlPkt (d .control1) && not (metaFlag (d .control1))) (search tests) (not-no e) in
-              let n : metaFlag (h .control1) ≡ false = flag ∙ not-true _ (and-right (isControlPkt (d .control1)) _ o) in
-              eq-eqb (length s) 20
-              (form-length h (d .metadata) (nextBytes d send bytes) ∙ rw (n, no-bytes (and-left (isControlPkt (d .control1)) _ o)))
-          go false e = refl
-
-      -- So does the count, which the go rule bounds.
-      meta : metaOk (h .control1) ≡ true
-      unfolding h nextHeader goRule
-      meta =
-          let count : metaCount (h .control1) ≡ metaCount (d .control1) = field-field 24 3 1 0 (d .control1) in
-          let ok : metaOk (d .control1) ≡ true = search tests in
-          (λ i. leb (count i) 4 && (flag i || eqb (count i) 0)) ∙ ok
-
-      -- "zero and reserved fields, meta_len as meta_cnt, ack is 20 bytes (H)".
-      fields : fieldsOk (packetOf s) ≡ true
-      unfolding fieldsOk packetOf s h nextHeader goRule
-      fields =
-          let p : List ℕ = nextBytes d send bytes in
-          let zero-half : field 0 16 (wordAt s 16) ≡ 0 = ap (field 0 16) (check-back h (d .metadata) p) ∙ omega arith in
-          (λ i. fieldsOk (record { header = header-back h (d .metadata) p i; zerohalf = zero-half i; metadata = metadataOf s; length = length s; payloadlength = payloadLength s }))
-          ∙ and-both (and-both (and-both (and-both (and-both
-          (eq-eqb (field 0 4 (h .address1)) 0 (omega arith))
-          (search tests))
-          (eq-eqb (field 28 4 (h .control1)) 0 (omega arith)))
-          refl)
-          meta)
-          ack
-
-      -- All of it.
-      read : (wellFormed s ≡ true) × (headerOf s ≡ h) × (metadataOf s ≡ pick (metaFlag (d .control1)) (d .metadata) noMetadata) × (payloadOf s ≡ nextBytes d send bytes)
-      unfolding wellFormed s
-      read =
-          let p : List ℕ = nextBytes d send bytes in (
-            and-both (and-both (and-both (packet-back h (d .metadata) p fits) (header-checked h (d .metadata) p fits)) fields) (body-checked h (d .metadata) p fits),
-            header-back h (d .metadata) p,
-            metadata-back h (d .metadata) p ∙ ap (λ (b : Bool). pick b (d .metadata) noMetadata) flag,
-            payload-back h (d .metadata) p,
-          )
+    read : ReadAs f (packetFrom m i)
+    read = rw sent-laid (any-read f allowed)
 
 -- Of a machine that is sized and sound.
-read-as : (m : Machine) (i : DescriptorIndex) → Below (2 ^ 32) (m .send) → Below 256 (m .bytes) → isSized m ≡ true → isSound m ≡ true
-    → i .0 < descriptors → isActive (descriptorAt (m .send) i) ≡ true → ReadAs m (descriptorAt (m .send) i) (packetFrom m i)
-unfolding packetFrom nextPacket d h s
-read-as m i words inside sized sound lt active =
-    let f : Fit m = fit m sized sound in
-    let r = read (m .send) (m .bytes) words inside i (f .send) (f .goes (i .0) lt active) (ownNode (m .saved .pcsr0)) (f .node) in
-    record { well-formed = r .0; header = r .1; metadata = r .2; payload = r .3 }
+sent-read : (m : Machine) (i : DescriptorIndex) → Below (2 ^ 32) (m .send) → Below 256 (m .bytes) → isSized m ≡ true → isSound m ≡ true
+    → i .0 < descriptors → isActive (descriptorAt (m .send) i) ≡ true → ReadAs (sentFields m (descriptorAt (m .send) i)) (packetFrom m i)
+unfolding d f
+sent-read m i words inside sized sound lt active =
+    let t : Fit m = fit m sized sound in
+    read m words inside i (t .send) (t .node) (t .goes (i .0) lt active)
 
 returns : tie.Need-returns
-returns c = record { holds = read-as }
+returns c = record { sent = sent-read; any = any-read }
 
 pub read-back-spec : {M : Type 1} → statement M
 read-back-spec = tie.close (tie.spec returns)
