@@ -1,7 +1,7 @@
 """Instances of the statements above the rules: each holds with the rules as they are, and fails with the changes that name it.
 
 What a statement is said of stands here by the name that it has there: c a call, m a machine, v the value of a reset and r the run
-after it, s a packet, w a word, d a descriptor. Calls are written as in tests/hand, machines are altered as in tests/hand/states.
+after it, f a packet's fields, s a packet, w a word, d a descriptor. Calls are written as in tests/hand, machines are altered as in tests/hand/states.
 """
 import sys
 from pathlib import Path
@@ -61,6 +61,13 @@ def descriptor(control0=0, control1=0):
                            metadata=SimpleNamespace(a=0, b=0, c=0, d=0))
 
 
+def fields(metaflag=False, metalen=0, payload=()):
+    """A packet's fields, of node 9 to slot 5 of node 7."""
+    return SimpleNamespace(fabtop=0, dstnode=7, fablow=0, dstslot=5, srcnode=9, usemsgsize=False, usemsgoffset=False, ackpkt=False,
+                           incarnation=3, offset=0, metaflag=metaflag, metalen=metalen, msgsize=0,
+                           metadata=SimpleNamespace(a=0, b=0, c=0, d=0), payload=list(payload))
+
+
 # ---- parts of them
 
 # Descriptor 1, to node 9: its words 1, 3, 4 and 5 for control0, so many bytes, control1.
@@ -90,6 +97,10 @@ INSTANCES = {
     'a plain message': {'m': machine(*active(0x03000000, 256, 0x10000100))},
     'a message with metadata': {'m': machine(*active(0x03000000, 256, 0x1C000100), 'set send 24 5')},
     'a message with the reserved bit': {'m': machine(*active(0x13000000, 256, 0x10000100))},
+
+    # Demand 2: fields that 01 allows.
+    'fields with meta_len 4': {'f': fields(metaflag=True, metalen=4)},
+    'fields with 128 bytes': {'f': fields(payload=[1] * 128)},
 
     # Demand 2: packets with right checks, of node 9 to slot 5 of node 7.
     'a packet with word 1 ending in 1': {'s': octets('00070000 00050091 03000000 00000000 54890000')},
