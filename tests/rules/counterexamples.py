@@ -70,8 +70,8 @@ def fields(metaflag=False, metalen=0, payload=()):
 
 # ---- parts of them
 
-# Descriptor 1, to node 9: its words 1, 3, 4 and 5 for control0, so many bytes, control1.
 def active(control0, size, control1):
+    """Descriptor 1 to node 9, with so many bytes to go: its words 1, 3, 4 and 5."""
     return ('set send 17 0x00090000', f'set send 19 {control0}', f'set send 20 {size}', f'set send 21 {control1}')
 
 
