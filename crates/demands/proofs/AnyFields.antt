@@ -12,7 +12,7 @@ use Rattle.ground.specs.Choice.{pick}
 use Rattle.ground.specs.Field.{field}
 use Rattle.ground.proofs.Choice.{pick-by}
 use Rattle.ground.proofs.Tests.{and-both}
-use Rattle.rules.specs.Words.{isAckPkt, metaCount, metaOk}
+use Rattle.rules.specs.Words.{isAckPkt, metaFlag, metaCount, metaOk}
 use Rattle.rules.specs.Memory.{noMetadata}
 use Rattle.rules.specs.Packet.{form, payloadLength, metadataOf, packetOf, fieldsOk, wellFormed}
 use Rattle.demands.specs.Types.{Metadata, Header}
@@ -48,37 +48,27 @@ module _ (f : Fields) (a : Allowed f) where
   -- "meta_len as meta_cnt".
   meta : metaOk (word3 f) ≡ true
   unfolding fieldsIn
-  meta =
-      let count : metaCount (word3 f) ≡ f .metalen = λ i. fields-read f (a .within) i .metalen in
-      (λ i. leb (count i) 4 && (flag-read f (a .within) i || eqb (count i) 0)) ∙ and-both (le-leb (f .metalen) 4 (omega (arith, a .len))) (go (f .metaflag) refl)
+  meta = go (f .metaflag) refl (λ i. fields-read f (a .within) i .metalen) (flag-read f (a .within))
     where
-      go : (b : Bool) → f .metaflag ≡ b → (b || eqb (f .metalen) 0) ≡ true
-      go true e = refl
-      go false e = eq-eqb (f .metalen) 0 (a .no-len e)
-
-  -- "ack is 20 bytes (H)".
-  ack : (not (isAckPkt (word2 f)) || eqb (length s) 20) ≡ true
-  unfolding fieldsIn s
-  ack = (λ i. not (fields-read f (a .within) i .ackpkt) || eqb (length s) 20) ∙ go (f .ackpkt) refl
-    where
-      go : (b : Bool) → f .ackpkt ≡ b → (not b || eqb (length s) 20) ≡ true
-      go true e = eq-eqb (length s) 20 (sym (ap length (packed f (a .within))) ∙ a .ack e)
-      go false e = refl
+      go : (b : Bool) → f .metaflag ≡ b → metaCount (word3 f) ≡ f .metalen → metaFlag (word3 f) ≡ f .metaflag → metaOk (word3 f) ≡ true
+      go true e count flag = rw (count, flag ∙ e) (and-both (le-leb (f .metalen) _ (omega (arith, a .len))) refl)
+      go false e count flag = rw (count ∙ a .no-len e, flag ∙ e)
 
   -- "zero and reserved fields, meta_len as meta_cnt, ack is 20 bytes (H)".
   fields : fieldsOk (packetOf s) ≡ true
-  unfolding fieldsOk packetOf s
+  unfolding fieldsOk packetOf fieldsIn s
   fields =
       let w = a .within in
       let zero-half : field 0 16 (wordAt s 16) ≡ 0 = ap (field 0 16) (check-back h m p) ∙ omega arith in
       (λ i. fieldsOk (record { header = header-back h m p i; zerohalf = zero-half i; metadata = metadataOf s; length = length s; payloadlength = payloadLength s }))
-      ∙ and-both (and-both (and-both (and-both (and-both
-      (eq-eqb _ 0 (low-read f w))
-      (eq-eqb _ 0 (reserved-read f w)))
-      (eq-eqb _ 0 (top-read f w)))
-      refl)
-      meta)
-      ack
+      ∙ go (f .ackpkt) refl (λ i. fields-read f w i .ackpkt)
+    where
+      go : (b : Bool) → f .ackpkt ≡ b → isAckPkt (word2 f) ≡ b
+          → fieldsOk (record { header = h; zerohalf = 0; metadata = metadataOf s; length = length s; payloadlength = payloadLength s }) ≡ true
+      go true e x =
+          let l : length s ≡ 20 = sym (ap length (packed f (a .within))) ∙ a .ack e in
+          simp (low-read f (a .within), reserved-read f (a .within), top-read f (a .within), meta, x, l)
+      go false e x = simp (low-read f (a .within), reserved-read f (a .within), top-read f (a .within), meta, x)
 
   -- It is well formed, and read as the fields.
   well-formed : wellFormed s ≡ true

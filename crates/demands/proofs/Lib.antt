@@ -12,6 +12,7 @@ pub mod Packets
 pub mod Formed
 pub mod Packed
 pub mod AnyFields
+pub mod Taken
 -- ---- blocks: the view of a machine, and what each call makes of it
 pub mod Sums
 pub mod Pigeons

@@ -2,7 +2,7 @@
 use Prim.Native.Nat.{_<_, _≤_}
 use mathlib.Core.Path.{_≡_}
 use mathlib.Core.Logic.{_≢_}
-use Rattle.rules.specs.Types.{ℕ, _%_, _^_, true, List, [], _++_, length}
+use Rattle.rules.specs.Types.{ℕ, _%_, _^_, Bool, true, List, [], _++_, length, take}
 use Rattle.rules.specs.Memory.{Machine, withSend, descriptors, lists}
 use Rattle.rules.specs.Packet.{packetOf, wellFormed}
 use Rattle.rules.specs.Sending.{descriptorAt, isActive, nextSender, markStalled}
@@ -48,11 +48,19 @@ pub record ReadAs (f : Fields) (packet : List ℕ) : Type 0 where
   pub fields : fieldsOf packet ≡ f
   pub payload-length : packetOf packet .payloadlength ≡ length (f .payload)
 
--- "What the sender forms, the receiver reads back field for field": what an active descriptor sends is the layout of its fields, and so is
--- any packet of fields that 01 allows.
+-- What a send call wrote: the packet of the descriptor that was chosen.
+pub record Sent (m : Machine) (o : Outcome) : Type 0 where
+  pub descriptor : DescriptorIndex
+  pub chosen : nextSender (m .saved) (m .send) (m .receive) ≡ Found.At descriptor
+  pub packet : ReadAs (sentFields m (descriptorAt (m .send) descriptor)) (take (o .value) (o .room))
+
+-- "What the sender forms, the receiver reads back field for field": what an active descriptor forms and what a send call writes is the layout
+-- of the descriptor's fields; and any fields that 01 allows are read back.
 pub record ReadBack : Type 0 where
-  pub sent : (m : Machine) (i : DescriptorIndex) → Below (2 ^ 32) (m .send) → Below 256 (m .bytes) → isSized m ≡ true → isSound m ≡ true
+  pub formed : (m : Machine) (i : DescriptorIndex) → Below (2 ^ 32) (m .send) → Below 256 (m .bytes) → isSized m ≡ true → isSound m ≡ true
       → i .0 < descriptors → isActive (descriptorAt (m .send) i) ≡ true → ReadAs (sentFields m (descriptorAt (m .send) i)) (packetFrom m i)
+  pub sent : (m : Machine) (ready : Bool) (room : List ℕ) → Below (2 ^ 32) (m .send) → Below 256 (m .bytes)
+      → perform (sends ready room) m .reply ≡ 0 → Sent m (perform (sends ready room) m)
   pub any : (f : Fields) → Allowed f → ReadAs f (layout f)
 
 -- The fields read of a packet are allowed, and their layout is the packet.
@@ -60,9 +68,11 @@ pub record LaidOut (packet : List ℕ) : Type 0 where
   pub allowed : Allowed (fieldsOf packet)
   pub to-the-byte : layout (fieldsOf packet) ≡ packet
 
--- "and each packet it passes as well formed is, to the byte, what 01's packet layout gives for those fields".
+-- "and each packet it passes as well formed is, to the byte, what 01's packet layout gives for those fields"; what a receive call takes, it
+-- has passed as well formed.
 pub record OnlyFormed : Type 0 where
   pub holds : (s : List ℕ) → Below 256 s → wellFormed s ≡ true → LaidOut s
+  pub taken : (m : Machine) (s : List ℕ) → perform (receives s) m .reply ≡ 0 → wellFormed s ≡ true
 
 -- "it also fixes both packet counts from the calls made", modulo 2^32.
 pub record PacketCounts : Type 0 where

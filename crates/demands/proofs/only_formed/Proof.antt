@@ -26,36 +26,11 @@ use Rattle.rules.specs.Packet.{headerBytes, metadataBytes, checkWord, bodyCheck
 use Rattle.demands.specs.Types.{Metadata, Header}
 use Rattle.demands.specs.Fields.{Below, layout, Within, Allowed, fieldsIn, fieldsOf}
 use Rattle.demands.proofs.Judged.{tests}
-use Rattle.demands.proofs.Packets.{body-some}
+use Rattle.demands.proofs.Packets.{body-some, Long, long}
 use Rattle.demands.proofs.Packed.{Made, laid-formed, words-made, none-fit}
+use Rattle.demands.proofs.Taken.{taken-well}
 use Rattle.demands.proofs.only_formed.Statement.{statement}
 use Rattle.demands.proofs.only_formed.Tie as tie
-
--- A packet's length reaches the payload; past it stands nothing, or a payload that 01 allows and a word.
-record Long (from n : ℕ) : Type 0 where
-  plain : 20 ≤ from
-  least : from ≤ n
-  empty : n - from - 4 ≡ 0 → n ≡ from
-  most : n - from - 4 ≤ 128
-  fours : (n - from - 4) % 4 ≡ 0
-
--- It is just that, or long enough for both.
-long-by : (from n : ℕ) → 20 ≤ from → from % 4 ≡ 0 → n % 4 ≡ 0 → (eqb n from || (leb (from + 8) n && leb n (from + 132))) ≡ true → Long from n
-long-by from n p z e h = go (ℕ-discrete n from)
-  where
-    go : Dec (n ≡ from) → Long from n
-    go (yes e) = record { plain = p; least = omega arith; empty = λ z. e; most = omega arith; fours = omega arith }
-    go (no d) =
-        let both : (leb (from + 8) n && leb n (from + 132)) ≡ true = or-second (eqb n from) _ h (ne-eqb n from d) in
-        let l : from + 8 ≤ n = leb-true (from + 8) n (and-left (leb (from + 8) n) _ both) in
-        let u : n ≤ from + 132 = leb-true n (from + 132) (and-right (leb (from + 8) n) _ both) in
-        record { plain = p; least = omega arith; empty = omega arith; most = omega arith; fours = omega arith }
-
--- By the rule.
-long : (f : Bool) (n : ℕ) → lengthOk f n ≡ true → Long (pick f 36 20) n
-unfolding pick
-long true n h = long-by 36 n (omega arith) refl (eqb-true (n % 4) 0 (search tests)) (search tests)
-long false n h = long-by 20 n (omega arith) refl (eqb-true (n % 4) 0 (search tests)) (or-first _ false (and-right (eqb (n % 4) 0) _ h) refl)
 
 -- Words of bytes fit 32 bits.
 words-fit : (s : List ℕ) (i k : ℕ) → Bytes s → Below (2 ^ 32) (wordsAt s i k)
@@ -197,7 +172,7 @@ module _ (s : List ℕ) (b : Bytes s) (well : wellFormed s ≡ true) where
       }
 
 returns : tie.Need-returns
-returns c = record { holds = λ s b well. record { allowed = allowed s b well; to-the-byte = laid s b well } }
+returns c = record { holds = λ s b well. record { allowed = allowed s b well; to-the-byte = laid s b well }; taken = taken-well }
 
 pub only-formed-spec : {M : Type 1} → statement M
 only-formed-spec = tie.close (tie.spec returns)

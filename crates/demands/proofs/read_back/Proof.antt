@@ -5,11 +5,12 @@ use mathlib.Core.Bool.{Bool, true, false, not, _&&_, _||_}
 use mathlib.Core.List.{List, [], _∷_, _++_}
 use native.Mathlib.Omega.{arith}
 use lib.Dec.{eqb, leb}
-use lib.ListN.{length}
+use lib.ListN.{length, take, drop}
+use lib.Seq.{take-append-seam}
 use borrow.Author.Tests.{eqb-true, leb-true, not-true}
 use Rattle.ground.specs.Bytes.{toBytes}
 use Rattle.ground.specs.Choice.{pick}
-use Rattle.ground.specs.Lists.{part}
+use Rattle.ground.specs.Lists.{part, over}
 use Rattle.ground.proofs.Bytes.{Bytes, row-length, bytes-row}
 use Rattle.ground.proofs.Choice.{pick-no, pick-holds}
 use Rattle.ground.proofs.Field.{field-lt, field-field, pack-unpack, bit-flag}
@@ -19,13 +20,15 @@ use Rattle.rules.specs.Words.{isAckPkt, isDirectIo, isControlPkt, metaFlag, met
 use Rattle.rules.specs.Memory.{Machine, descriptors, noMetadata, metadataWords}
 use Rattle.rules.specs.Saved.{ownNode}
 use Rattle.rules.specs.Packet.{headerBytes, metadataBytes, checkWord, bodyCheckBytes, frontBytes, form}
-use Rattle.rules.specs.Sending.{descriptorAt, isActive, addressOk, messageSizeOk, goRule, nextPayload, nextBytes, nextHeader, nextPacket}
+use Rattle.rules.specs.Sending.{descriptorAt, isActive, isReady, addressOk, messageSizeOk, goRule, nextPayload, nextBytes, nextHeader, nextPacket}
 use Rattle.rules.specs.Sound.{isSized, isSound}
-use Rattle.rules.specs.Calls.{packetFrom}
-use Rattle.demands.specs.Types.{DescriptorIndex, Metadata, Descriptor, Header}
+use Rattle.rules.specs.Calls.{sends, perform, judgeSend, packetFrom, actSend, sendCall}
+use Rattle.demands.specs.Types.{DescriptorIndex, Metadata, Descriptor, Header, Sending}
 use Rattle.demands.specs.Fields.{Below, Fields, word0, word1, word2, word3, layout, Within, Allowed, sentFields}
-use Rattle.demands.specs.Demands.{ReadAs}
+use Rattle.demands.specs.Demands.{ReadAs, Sent}
 use Rattle.demands.proofs.Judged.{tests, Fit, fit}
+use Rattle.demands.proofs.Choices.{found-ready}
+use Rattle.demands.proofs.Verdicts.{OfSend, of-send}
 use Rattle.demands.proofs.Packed.{Made, laid-formed, plain-length, control0-made, none-fit}
 use Rattle.demands.proofs.AnyFields.{any-read}
 use Rattle.demands.proofs.read_back.Statement.{statement}
@@ -179,15 +182,38 @@ module _ (m : Machine) (words : Below (2 ^ 32) (m .send)) (inside : Below 256 (m
     read = rw sent-laid (any-read f allowed)
 
 -- Of a machine that is sized and sound.
-sent-read : (m : Machine) (i : DescriptorIndex) → Below (2 ^ 32) (m .send) → Below 256 (m .bytes) → isSized m ≡ true → isSound m ≡ true
+formed-read : (m : Machine) (i : DescriptorIndex) → Below (2 ^ 32) (m .send) → Below 256 (m .bytes) → isSized m ≡ true → isSound m ≡ true
     → i .0 < descriptors → isActive (descriptorAt (m .send) i) ≡ true → ReadAs (sentFields m (descriptorAt (m .send) i)) (packetFrom m i)
 unfolding d f
-sent-read m i words inside sized sound lt active =
+formed-read m i words inside sized sound lt active =
     let t : Fit m = fit m sized sound in
     read m words inside i (t .send) (t .node) (t .goes (i .0) lt active)
 
+-- By a send call's verdict: the packet stands at the start of the room.
+sent-by : (m : Machine) (room : List ℕ) (v : Sending) → Below (2 ^ 32) (m .send) → Below 256 (m .bytes) → OfSend m v
+    → actSend m room v .reply ≡ 0 → Sent m (actSend m room v)
+unfolding d f actSend over isReady
+sent-by m room (Sending.No why) words inside h z = absurd (h .done z)
+sent-by m room (Sending.Waits i) words inside h z = absurd (omega arith)
+sent-by m room (Sending.Sends i) words inside h z =
+    let t : Fit m = h .0 in
+    let r = found-ready (m .saved) (m .send) (m .receive) (h .1) in
+    let p : List ℕ = packetFrom m i in
+    let e : take (length p) (p ++ drop (length p) room) ≡ p = take-append-seam p (drop (length p) room) in
+    record {
+      descriptor = i;
+      chosen = h .1;
+      packet = rw e (read m words inside i (t .send) (t .node) (t .goes (i .0) (r .1) (and-left (isActive (descriptorAt (m .send) i)) _ (r .0))));
+    }
+
+-- By the call.
+sent-read : (m : Machine) (ready : Bool) (room : List ℕ) → Below (2 ^ 32) (m .send) → Below 256 (m .bytes)
+    → perform (sends ready room) m .reply ≡ 0 → Sent m (perform (sends ready room) m)
+unfolding perform sendCall
+sent-read m ready room words inside z = sent-by m room (judgeSend m ready (length room)) words inside (of-send m ready (length room)) z
+
 returns : tie.Need-returns
-returns c = record { sent = sent-read; any = any-read }
+returns c = record { formed = formed-read; sent = sent-read; any = any-read }
 
 pub read-back-spec : {M : Type 1} → statement M
 read-back-spec = tie.close (tie.spec returns)
