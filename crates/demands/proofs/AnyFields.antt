@@ -1,12 +1,11 @@
 -- Any fields that document 01 allows, laid out, are a well-formed packet that is read as them. Assumes nothing.
 use Prim.Native.Nat.{ℕ}
 use mathlib.Core.Path.{_≡_, refl, sym, ap, _∙_}
-use mathlib.Core.Bool.{Bool, true, false, not, _&&_, _||_}
+use mathlib.Core.Bool.{Bool, true, false}
 use mathlib.Core.List.{List}
 use native.Mathlib.Omega.{arith}
-use lib.Dec.{eqb, leb}
 use lib.ListN.{length}
-use borrow.Author.Tests.{eq-eqb, le-leb}
+use borrow.Author.Tests.{le-leb}
 use Rattle.ground.specs.Bytes.{wordAt}
 use Rattle.ground.specs.Choice.{pick}
 use Rattle.ground.specs.Field.{field}

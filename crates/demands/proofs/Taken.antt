@@ -8,7 +8,7 @@ use lib.ListN.{length}
 use borrow.Author.Tests.{eqb-true, eq-eqb}
 use Rattle.ground.specs.Bytes.{wordAt}
 use Rattle.ground.proofs.Choice.{need-holds}
-use Rattle.ground.proofs.Tests.{and-left, and-right, and-both, or-second}
+use Rattle.ground.proofs.Tests.{and-both, or-second}
 use Rattle.rules.specs.Words.{isAckPkt}
 use Rattle.rules.specs.Memory.{Machine}
 use Rattle.rules.specs.Packet.{flagged, payloadFrom, packetOf, isPacket, fieldsOk, bodyChecks, wellFormed}

@@ -6,12 +6,12 @@ pub fn refusals_alter_nothing()
     ensures { λ r. ⌜ RefusalsAlterNothing ⌝ }
 {}
 
-// Demand 2: what the sender forms is read back.
+// Demand 2: what the sender forms is read back field for field.
 pub fn read_back()
     ensures { λ r. ⌜ ReadBack ⌝ }
 {}
 
-// Demand 2: what is well formed is what 01's layout gives for its fields.
+// Demand 2: what is passed as well formed is, to the byte, what 01's layout gives for its fields.
 pub fn only_formed()
     ensures { λ r. ⌜ OnlyFormed ⌝ }
 {}

@@ -1,12 +1,12 @@
 -- `demands::only_formed` meets its contract: a well-formed packet is formed of what is read of it, part by part, and so laid out of its fields,
 -- which are allowed. Assumes nothing.
-use Prim.Native.Nat.{ℕ, zero, suc, _+_, _-_, _*_, _%_, _^_, _<_, _≤_}
+use Prim.Native.Nat.{ℕ, zero, suc, _+_, _-_, _*_, _^_, _<_, _≤_}
 use mathlib.Core.Path.{_≡_, refl, sym, ap, _∙_}
-use mathlib.Core.Bool.{Bool, true, false, not, _&&_, _||_}
+use mathlib.Core.Bool.{Bool, true, false, not, _||_}
 use mathlib.Core.List.{List, [], _∷_, _++_, append-assoc}
 use native.Mathlib.Omega.{arith}
-use native.Mathlib.Decide.{decLt, ℕ-discrete}
-use lib.Dec.{eqb, leb}
+use native.Mathlib.Decide.{decLt}
+use lib.Dec.{eqb}
 use lib.ListN.{length, take, drop, length-drop, take-append-drop, drop-of-length-le}
 use lib.Seq.{take-all, take-add, drop-drop}
 use borrow.Author.Tests.{eqb-true, ne-eqb, leb-true}
@@ -18,11 +18,11 @@ use Rattle.ground.proofs.Bytes.{Bytes, word-fits, bytes-part, wordsAt, bytes-wo
 use Rattle.ground.proofs.Choice.{pick-no, pick-holds}
 use Rattle.ground.proofs.Field.{field-lt}
 use Rattle.ground.proofs.Lists.{length-part, part-holds}
-use Rattle.ground.proofs.Tests.{and-left, and-right, or-first, or-second, not-no}
+use Rattle.ground.proofs.Tests.{or-second, not-no}
 use Rattle.rules.specs.Words.{isAckPkt, metaFlag, metaCount, metaOk}
 use Rattle.rules.specs.Memory.{noMetadata, metadataWords}
 use Rattle.rules.specs.Checksum.{checkOf}
-use Rattle.rules.specs.Packet.{headerBytes, metadataBytes, checkWord, bodyCheckBytes, frontBytes, form, headerOf, flagged, payloadFrom, payloadLength, payloadOf, metadataOf, packetOf, lengthOk, headerChecks, fieldsOk, bodyChecks, wellFormed}
+use Rattle.rules.specs.Packet.{headerBytes, metadataBytes, checkWord, bodyCheckBytes, frontBytes, form, headerOf, flagged, payloadFrom, payloadLength, payloadOf, metadataOf, packetOf, headerChecks, fieldsOk, bodyChecks, wellFormed}
 use Rattle.demands.specs.Types.{Metadata, Header}
 use Rattle.demands.specs.Fields.{Below, layout, Within, Allowed, fieldsIn, fieldsOf}
 use Rattle.demands.proofs.Judged.{tests}
