@@ -35,11 +35,13 @@ EQUATIONS = {'≡', '≢', '<', '≤'}
 # The functions of a run or a machine that are asked again and again, of the same one.
 REMEMBERED = {'begun', 'after', 'act', 'handed', 'standing'}
 
-# The numbers that are tried: places up to Send RAM's length, and the addresses of all blocks.
-NUMBERS = sorted({*range(1025), *range(0, 8192, 32)})
-
-# The calls that are tried, one of each kind.
-CALLS = [call(kind, 0, 0, [], []) for kind in range(6)]
+# What is tried where something is said of each or some: places up to Send RAM's length and the addresses of all blocks; one call of
+# each kind; the four descriptors, by the definitions.
+THINGS = {
+    'ℕ': sorted({*range(1025), *range(0, 8192, 32)}),
+    'Call': [call(kind, 0, 0, [], []) for kind in range(6)],
+    'DescriptorIndex': None,
+}
 
 
 @dataclass(frozen=True)
@@ -144,11 +146,11 @@ def add(declared, name, module, item, parameters, tree):
 
 
 def all_of(rows):
-    """All rows at once."""
-    trees = [tree for _, tree in rows]
-    whole = trees.pop()
-    while trees:
-        whole = Infix(whole.line, '×', trees.pop(), whole)
+    """All rows at once. A row that is a thing, and no truth, is there for some such thing: those below it are said of that."""
+    whole = Name(0, 'true')
+    for name, tree in reversed(rows):
+        is_thing = isinstance(tree, Name) and tree.name in THINGS
+        whole = Quantifier(tree.line, name, tree.name, False, whole) if is_thing else Infix(tree.line, '×', tree, whole)
     return whole
 
 
@@ -214,13 +216,9 @@ class Statements:
 
     def tried(self, of):
         """What is tried of a type."""
-        if of == 'ℕ':
-            return NUMBERS
-        if of == 'DescriptorIndex':
-            return [self.names['descriptor'](number) for number in range(4)]
-        if of == 'Call':
-            return CALLS
-        raise NotKnown('the statements', 0, f'each or some of the type {of}')
+        if of not in THINGS:
+            raise NotKnown('the statements', 0, f'each or some of the type {of}')
+        return [self.names['descriptor'](number) for number in range(4)] if of == 'DescriptorIndex' else THINGS[of]
 
     def rows(self, asked):
         """The rows of `contract`, or the one of `contract.row`."""

@@ -93,10 +93,11 @@ INSTANCES = {
     'a take of list 64': {'c': call('take 64'), 'm': machine()},
     'a send without fabric': {'c': call('send 0'), 'm': machine(*active(0x03000000, 256, 0x10000100))},
 
-    # Demand 2: what an active descriptor sends.
+    # Demand 2: what an active descriptor forms, and a send writes.
     'a plain message': {'m': machine(*active(0x03000000, 256, 0x10000100))},
     'a message with metadata': {'m': machine(*active(0x03000000, 256, 0x1C000100), 'set send 24 5')},
     'a message with the reserved bit': {'m': machine(*active(0x13000000, 256, 0x10000100))},
+    'a send': {'m': machine(*active(0x03000000, 256, 0x10000100)), 'ready': True, 'room': [0] * 168},
 
     # Demand 2: fields that 01 allows.
     'fields with meta_len 4': {'f': fields(metaflag=True, metalen=4)},
@@ -111,6 +112,10 @@ INSTANCES = {
     'a packet with meta_len 5': {'s': octets('00070000 00050090 03000000 0d000000 c47b0000 00000001 00000002 00000003 00000004')},
     'a packet with meta_len 1 and no flag': {'s': octets('00070000 00050090 03000000 01000000 c91e0000')},
     'an ack with payload': {'s': octets('00070000 00050090 23000000 00000000 c4c20000 01020304 89c30000')},
+    # Slot 5 is valid and has 300 bytes; the body check should end in 3.
+    'a wrong body check': {
+        'm': machine('set slots 64', 'set receive 81 300', 'set receive 82 0x8000'),
+        's': octets('00070000 00050090 03000000 00000000 bfaa0000 01020304 89c20000')},
 
     # Demand 2: the counts.
     'four faults': after_reset(*HEAD, 'write 0x01C 64', *(FAULT, 'take 0') * 4),
