@@ -1,8 +1,9 @@
 """Translates the statements of the crates above the rules, with the definitions, and asks them at single instances.
 
 A statement is a record whose rows are types: equations and comparisons, with what they presuppose. Its rows become functions that
-say true or false. What a row is said of, `(v : ℕ) (m : Machine) → ..`, is given with the instance. What is said of each number
-within, `(b : ℕ) → ..`, is tried for a range of numbers that holds all that an instance has: the places of its memories, its blocks.
+say true or false, by the text that is proved. What a row is said of, `(v : ℕ) (m : Machine) → ..`, is given with the instance. What is
+said within of each number, `(b : ℕ) → ..`, is tried for a range of numbers that holds all that an instance has, the places of its
+memories and its blocks; what is said of some descriptor, for all four.
 """
 import re
 from dataclasses import dataclass
