@@ -7,11 +7,9 @@ from library import FORMS, FUNCTIONS, NATIVE
 from reading import PRECEDENCE, NotKnown, Reader, items_of
 from trees import Apply, Name
 
-# The crates that are translated, and their modules that are not: lists of modules, the library's names handed on.
-CRATES = {
-    'ground': {'Lib'},
-    'rules': {'Lib', 'Types'},
-}
+# The crates of the definitions, and the modules of a crate that are not translated: lists of modules, names handed on.
+CRATES = ('ground', 'rules')
+NO_DEFINITIONS = {'Lib', 'Types'}
 
 
 @dataclass
@@ -35,9 +33,11 @@ class Function:
 
 
 class Declared:
-    """All that is declared in the crates."""
+    """All that is declared in the crates. `reader` reads the clauses."""
 
-    def __init__(self):
+    def __init__(self, reader):
+        self.reader = reader
+        self.modules = []
         self.constructors = {}      # 'Enum.Variant' -> how many arguments
         self.types_with = {}        # 'Variant' -> the enums and data types that have it
         self.functions = {}
@@ -121,7 +121,7 @@ def read_operator(declared, item):
 
 def read_clause(declared, module, item):
     """`f p q = e`, below the signature of f."""
-    left, body = Reader(item, declared.precedence).clause()
+    left, body = declared.reader(item, declared.precedence).clause()
     head, patterns = (left.head, left.arguments) if isinstance(left, Apply) else (left, ())
     if not isinstance(head, Name) or head.name not in declared.functions:
         raise NotKnown(item.file, item.line, 'a clause without a signature')
@@ -146,17 +146,17 @@ def name_of(item):
     return next(before.text for before, token in zip(item.tokens, item.tokens[1:]) if token.text == ':')
 
 
-def read_crates(crates):
-    """Reads both crates: first what is declared, then the clauses, since these are read by it."""
-    declared, modules = Declared(), []
-    for crate, skipped in CRATES.items():
+def read_crates(crates, names=CRATES, reader=Reader):
+    """Reads these crates: first what is declared, then the clauses, since these are read by it."""
+    declared = Declared(reader)
+    for crate in names:
         for path in sorted((Path(crates) / crate / 'src').glob('**/*.rt')):
             read_enums(declared, path, f'{crate}/src/{path.name}')
         for path in sorted((Path(crates) / crate / 'specs').glob('*.antt')):
-            if path.stem not in skipped:
+            if path.stem not in NO_DEFINITIONS:
                 file = f'{crate}/specs/{path.name}'
-                modules.append(Module(file, items_of(path, file)))
-    for module in modules:
+                declared.modules.append(Module(file, items_of(path, file)))
+    for module in declared.modules:
         for item in module.items:
             read_names(module, item)
             kind = kind_of(item)
@@ -164,7 +164,7 @@ def read_crates(crates):
                 read_data(declared, item)
             elif kind.startswith('infix'):
                 read_operator(declared, item)
-    for module in modules:
+    for module in declared.modules:
         read_functions(declared, module)
     return declared
 

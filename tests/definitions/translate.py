@@ -23,11 +23,15 @@ NUMBER_PATTERNS = {'suc': ('{} > 0', '({} - 1)'), 'pos': ('{} >= 0', '{}'), 'neg
 
 def load(crates):
     """The definitions under the folder `crates`: Python functions by their antt names. A constant is a function of nothing."""
-    declared = read_crates(crates)
+    return loaded(read_crates(crates), FunctionWriter)
+
+
+def loaded(declared, writer, **more):
+    """What is declared, written by a writer, as Python functions by their antt names; `more` is what else the writer's text calls."""
     names = [name for name in declared.functions if name not in library.NATIVE]
-    source = '\n'.join(FunctionWriter(declared, name).written() for name in names)
+    source = '\n'.join(writer(declared, name).written() for name in names)
     space = {python_name(name): function for name, (_, function) in library.FUNCTIONS.items()}
-    space.update(cut_off=library.cut_off, Fields=SimpleNamespace, once=functools.cache)
+    space.update(cut_off=library.cut_off, Fields=SimpleNamespace, once=functools.cache, **more)
     exec(compile(source, 'the definitions', 'exec'), space)
     return {name: space[python_name(name)] for name in names}
 
