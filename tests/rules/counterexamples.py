@@ -1,7 +1,7 @@
 """Instances of the statements above the rules: each holds with the rules as they are, and fails with the changes that name it.
 
 What a statement is said of stands here by the name that it has there: c a call, m a machine, v the value of a reset and r the run
-after it, f a packet's fields, s a packet, w a word, d a descriptor. Calls are written as in tests/hand, machines are altered as in tests/hand/states.
+after it, f a packet's fields, s a packet, w a word, d a descriptor, i and v a slot, h a header, bytes a packet. Calls are written as in tests/hand, machines are altered as in tests/hand/states.
 """
 import sys
 from pathlib import Path
@@ -17,7 +17,7 @@ from vectors import KINDS  # noqa: E402
 
 def octets(text):
     """Bytes in hexadecimal digits."""
-    return list(b''.join(bytes_by_hand(part) for part in text.split()))
+    return list(bytes_by_hand(text.split()))
 
 
 def call(text):
@@ -66,6 +66,16 @@ def fields(metaflag=False, metalen=0, payload=()):
     return SimpleNamespace(fabtop=0, dstnode=7, fablow=0, dstslot=5, srcnode=9, usemsgsize=False, usemsgoffset=False, ackpkt=False,
                            incarnation=3, offset=0, metaflag=metaflag, metalen=metalen, msgsize=0,
                            metadata=SimpleNamespace(a=0, b=0, c=0, d=0), payload=list(payload))
+
+
+def slot(msgsize, msgoffset):
+    """A slot that has no other words."""
+    return SimpleNamespace(base=0, size=0, noteandflags=0, bytestogo=0, msgsize=msgsize, msgoffset=msgoffset, acknote=0, metaword=0,
+                           metadata=SimpleNamespace(a=0, b=0, c=0, d=0))
+
+
+# The header of a packet of node 9 to slot 5 of node 7, with msg_size 8.
+HEADER = SimpleNamespace(address0=0x00070000, address1=0x00050090, control0=0x03000000, control1=8)
 
 
 # ---- parts of them
@@ -144,4 +154,7 @@ INSTANCES = {
     'bit 30': {'w': 0x40000000},
     'use_msg_offset': {'d': descriptor(control0=0x40000000)},
     'meta_cnt 1': {'d': descriptor(control1=0x01000000)},
+    'a slot with msg_size 8 and msg_offset 4': {'i': SimpleNamespace(field_0=5), 'h': HEADER, 'v': slot(msgsize=8, msgoffset=4)},
+    'a header with msg_size 8': {'i': SimpleNamespace(field_0=5), 'h': HEADER},
+    'a packet whose word 4 is 0x00018000': {'bytes': octets('00070000 00050090 03000000 00000000 00018000')},
 }
