@@ -11,7 +11,6 @@ ghost use mathlib.Core.Path.{_≡_};
 ghost use Prim.Native.Nat.{_+_, _≤_};
 ghost use lib.ListN.{length, take};
 ghost use Rattle.rules.specs.Station.{recordSize};
-ghost use Rattle.station.specs.Turns.{InTurns};
 
 // Reads what is at hand behind the room's first record, where bytes may wait, and says how many bytes came: 0 at the end of the input.
 fn read_on(input: &mut [u8]) -> usize
@@ -22,11 +21,6 @@ fn read_on(input: &mut [u8]) -> usize
     let got = libc::read(STDIN_FILENO, behind);
     io::count(got, behind)
 }
-
-// However the reads cut the input, the turns write the station's lines.
-fn in_turns()
-    ensures { λ r. ⌜ InTurns ⌝ }
-{}
 
 fn main() {
     let mut saved = [0u32; 15];

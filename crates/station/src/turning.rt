@@ -6,7 +6,7 @@ ghost use Prim.Native.Nat.{_+_, _<_, _≤_};
 ghost use lib.ListN.{length};
 ghost use Rattle.rules.specs.Station.{recordSize};
 ghost use Rattle.boundary.specs.Boundary.{savedSize};
-ghost use Rattle.station.specs.Turns.{Rooms, Zeros, Begun, held, cameIn, Turned};
+ghost use Rattle.station.specs.Turns.{Rooms, Zeros, Begun, held, cameIn, Turned, InTurns};
 
 // The opening reset over memories of zeros; no byte waits.
 pub(crate) fn begin(
@@ -48,3 +48,8 @@ pub(crate) fn turn(
     *kept = answered.kept;
     answered.next
 }
+
+// However the reads cut the input, the turns write the station's lines.
+fn in_turns()
+    ensures { λ r. ⌜ InTurns ⌝ }
+{}
