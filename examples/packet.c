@@ -4,8 +4,17 @@
 
 #include "valmthosh.h"
 
-static uint32_t saved[15], send_ram[1024], receive_ram[2048], notice_memory[2048], notice[8], answer[3];
-static uint8_t data_memory[32768], room[168];
+static uint32_t saved[VALMTHOSH_SAVED_WORDS], answer[VALMTHOSH_ANSWER_WORDS];
+static uint32_t send_ram[VALMTHOSH_SEND_WORDS], receive_ram[VALMTHOSH_RECEIVE_WORDS];
+static uint32_t notice_memory[VALMTHOSH_NOTICE_MEMORY_WORDS_MOST], notice[VALMTHOSH_NOTICE_WORDS];
+static uint8_t data_memory[VALMTHOSH_DATA_BYTES_MOST], room[VALMTHOSH_PACKET_BYTES_MOST];
+
+/* An array as a slice: a pointer and its length. */
+#define WORDS(array) array, sizeof array / sizeof *array
+#define BYTES(array) array, sizeof array
+
+/* All that every call is lent. */
+#define LENT WORDS(saved), WORDS(send_ram), WORDS(receive_ram), BYTES(data_memory), WORDS(notice_memory)
 
 /* From node 7 to slot 5 of node 9, incarnation 3: "Hello 01", a whole message of 8 bytes (use_msg_size). */
 static const uint8_t packet[] = {
@@ -18,23 +27,23 @@ static const struct write {
     uint32_t number, value;
     const char *what;
 } before[] = {
-    {0x000, 0x80000000, "reset"},
-    {0x000, 0x40030009, "enable; incarnation 3, node 9"},
-    {0x01C, 0x00000040, "NBQR: a block"},
-    {0x01C, 0x00000060, "NBQR: a block"},
-    {0x080, 0x00001028, "Receive RAM pointer to list 5"},
-    {0x088, 0x00000020, "its head"},
-    {0x088, 0x00000247, "token 0x123, enqueue"},
-    {0x080, 0x00000140, "Receive RAM pointer to slot 5"},
-    {0x088, 0x00000100, "its base"},
-    {0x088, 0x00000100, "its size"},
-    {0x088, 0x0005B000, "note_index 5, valid, do_acks, notify"},
-    {0x00C, 0x00000006, "slot count"},
+    {VALMTHOSH_PCSR0, 0x80000000, "reset"},
+    {VALMTHOSH_PCSR0, 0x40030009, "enable; incarnation 3, node 9"},
+    {VALMTHOSH_NBQR, 0x00000040, "NBQR: a block"},
+    {VALMTHOSH_NBQR, 0x00000060, "NBQR: a block"},
+    {VALMTHOSH_RECEIVE_POINTER, 0x00001028, "Receive RAM pointer to list 5"},
+    {VALMTHOSH_RECEIVE_WORD_STEP, 0x00000020, "its head"},
+    {VALMTHOSH_RECEIVE_WORD_STEP, 0x00000247, "token 0x123, enqueue"},
+    {VALMTHOSH_RECEIVE_POINTER, 0x00000140, "Receive RAM pointer to slot 5"},
+    {VALMTHOSH_RECEIVE_WORD_STEP, 0x00000100, "its base"},
+    {VALMTHOSH_RECEIVE_WORD_STEP, 0x00000100, "its size"},
+    {VALMTHOSH_RECEIVE_WORD_STEP, 0x0005B000, "note_index 5, valid, do_acks, notify"},
+    {VALMTHOSH_SLOT_COUNT, 0x00000006, "slot count"},
 }, after[] = {
-    {0x104, 0x00070000, "descriptor 0: dst_node 7"},
-    {0x108, 0x00050000, "dst_slot 5"},
-    {0x10C, 0x23000000, "ack_pkt, incarnation 3"},
-    {0x114, 0x50000000, "control_pkt, go"},
+    {VALMTHOSH_DESCRIPTORS + 4 * 1, 0x00070000, "descriptor 0: dst_node 7"},
+    {VALMTHOSH_DESCRIPTORS + 4 * 2, 0x00050000, "dst_slot 5"},
+    {VALMTHOSH_DESCRIPTORS + 4 * 3, 0x23000000, "ack_pkt, incarnation 3"},
+    {VALMTHOSH_DESCRIPTORS + 4 * 5, 0x50000000, "control_pkt, go"},
 };
 
 static void show(const char *call, const char *what)
@@ -45,46 +54,44 @@ static void show(const char *call, const char *what)
 static void write_all(const struct write *writes, size_t count)
 {
     for (size_t i = 0; i < count; i++) {
-        valmthosh_write(saved, 15, send_ram, 1024, receive_ram, 2048, data_memory, 32768, notice_memory, 2048, writes[i].number,
-                        writes[i].value, answer, 3);
+        valmthosh_write(LENT, writes[i].number, writes[i].value, WORDS(answer));
         show("write", writes[i].what);
     }
 }
 
 static void read_one(uint32_t number, const char *what)
 {
-    valmthosh_read(saved, 15, send_ram, 1024, receive_ram, 2048, data_memory, 32768, notice_memory, 2048, number, answer, 3);
+    valmthosh_read(LENT, number, WORDS(answer));
     show("read", what);
 }
 
 static void take(const char *what)
 {
-    valmthosh_take(saved, 15, send_ram, 1024, receive_ram, 2048, data_memory, 32768, notice_memory, 2048, 5, notice, 8, answer, 3);
+    valmthosh_take(LENT, 5, WORDS(notice), WORDS(answer));
     show("take", what);
 }
 
 int main(void)
 {
     write_all(before, sizeof before / sizeof *before);
-    valmthosh_receive(saved, 15, send_ram, 1024, receive_ram, 2048, data_memory, 32768, notice_memory, 2048, packet, sizeof packet,
-                      answer, 3);
+    valmthosh_receive(LENT, BYTES(packet), WORDS(answer));
     show("receive", "the packet");
     printf("slot 5: %.8s\n", (const char *)&data_memory[0x100]);
-    read_one(0x014, "NQR: the list's token");
-    read_one(0x018, "AQR: the slot, to be acked");
+    read_one(VALMTHOSH_NQR, "NQR: the list's token");
+    read_one(VALMTHOSH_AQR, "AQR: the slot, to be acked");
     take("list 5");
     printf("notice:");
-    for (int i = 0; i < 8; i++)
+    for (int i = 0; i < VALMTHOSH_NOTICE_WORDS; i++)
         printf(" %08x", notice[i]);
     printf("\n");
     take("list 5 again");
     write_all(after, sizeof after / sizeof *after);
-    valmthosh_send(saved, 15, send_ram, 1024, receive_ram, 2048, data_memory, 32768, notice_memory, 2048, 1, room, sizeof room, answer, 3);
+    valmthosh_send(LENT, 1, BYTES(room), WORDS(answer));
     show("send", "the ack");
     printf("ack:");
     for (uint32_t i = 0; i < answer[1]; i++)
         printf(" %02x", room[i]);
     printf("\n");
-    read_one(0x020, "packets taken");
+    read_one(VALMTHOSH_PACKETS_TAKEN, "packets taken");
     return 0;
 }
