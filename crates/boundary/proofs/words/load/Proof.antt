@@ -1,4 +1,5 @@
 -- `boundary::words::load` meets its contract. Assumes nothing.
+use mathlib.Core.Path.{refl}
 use borrow.Author.Needs.{needs}
 use Rattle.boundary.specs.Boundary.{savedOf}
 use Rattle.boundary.proofs.words.load.Statement.{statement}
@@ -24,4 +25,4 @@ load-spec =
     (search needs)
     (search needs)
     (search needs)
-    (search needs))
+    (λ c. refl))
