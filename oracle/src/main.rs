@@ -14,6 +14,9 @@ mod station;
 mod trial;
 mod wrong;
 
+#[cfg(test)]
+mod bench_set;
+
 use std::error::Error;
 use std::fs::File;
 use std::io::{self, BufReader, BufWriter, Read, Write};

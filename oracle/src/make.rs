@@ -20,6 +20,7 @@ mod plans;
 mod planting;
 mod raw_recorder;
 mod settings;
+mod staging;
 mod station_recorder;
 
 use std::io::{self, Write};

@@ -4,9 +4,13 @@ import struct
 from collections import namedtuple
 from pathlib import Path
 
+from entries import SAVED
+
 TESTS = Path(__file__).resolve().parent.parent
 RECORD = 192        # bytes of a record of the station program
 PACKET = 168        # bytes of packet in it
+CASE_HEAD = 4 * (3 + 6 + len(SAVED))        # bytes of a raw case before its memories: the call, the sizes, the saved state
+ANSWER_HEAD = 4 * (3 + len(SAVED))          # and of an answer: reply, value and interrupts, the saved state
 KINDS = {'write': 1, 'read': 2, 'receive': 3, 'send': 4, 'take': 5}
 
 # A record with the line that is expected of it. `place` says where it stands: its number, or the line of a hand-made file. `lent` is how
@@ -32,12 +36,27 @@ def all_tests():
     return tests
 
 
+def answers_of(path):
+    """The file with the answers to an input."""
+    return path.with_name(path.name.replace('.in.gz', '.out' if path.name.startswith('station-') else '.out.gz'))
+
+
+def contents(path):
+    """What a file of the vectors holds, unpacked."""
+    return gzip.decompress(path.read_bytes()) if path.suffix == '.gz' else path.read_bytes()
+
+
+def put(path, data):
+    """Writes such a file; the same data give the same bytes each time."""
+    path.write_bytes(gzip.compress(data, mtime=0) if path.suffix == '.gz' else data)
+
+
 # ---- station streams
 
 def station_records(path):
     """The records of a stream, each with its line. A torn last record is a record too."""
-    stream = gzip.decompress(path.read_bytes())
-    lines = path.with_name(path.name.replace('.in.gz', '.out')).read_bytes().splitlines(keepends=True)
+    stream = contents(path)
+    lines = contents(answers_of(path)).splitlines(keepends=True)
     records = [stream[at:at + RECORD] for at in range(0, len(stream), RECORD)]
     if len(records) != len(lines):
         raise Malformed(f'{path.name}: {len(records)} records, but {len(lines)} lines are expected')
@@ -79,22 +98,26 @@ def padded(count):
     return count + -count % 4
 
 
+def part_sizes(counts):
+    """How many bytes each memory and room takes, of the six sizes of a case."""
+    return [4 * counts[0], 4 * counts[1], padded(counts[2]), 4 * counts[3], padded(counts[4]), 4 * counts[5]]
+
+
 def raw_cases(path):
     """The cases of a raw file, each with the bytes expected after it. A truncated last case is ignored, as the format says."""
-    stream = gzip.decompress(path.read_bytes())
-    answers = gzip.decompress(path.with_name(path.name.replace('.in.', '.out.')).read_bytes())
+    stream, answers = contents(path), contents(answers_of(path))
     cases, at, answered = [], 0, 0
-    while at + 96 <= len(stream):
-        kind, first, second, *rest = words(stream[at:at + 96])
+    while at + CASE_HEAD <= len(stream):
+        kind, first, second, *rest = words(stream[at:at + CASE_HEAD])
         counts, saved = rest[:6], rest[6:]
-        sizes = [4 * counts[0], 4 * counts[1], padded(counts[2]), 4 * counts[3], padded(counts[4]), 4 * counts[5]]
-        if at + 96 + sum(sizes) > len(stream):
+        sizes = part_sizes(counts)
+        if at + CASE_HEAD + sum(sizes) > len(stream):
             break
-        parts = parts_of(stream[at + 96:at + 96 + sum(sizes)], sizes)
-        expected = answers[answered:answered + 72 + sum(sizes)]
+        parts = parts_of(stream[at + CASE_HEAD:at + CASE_HEAD + sum(sizes)], sizes)
+        expected = answers[answered:answered + ANSWER_HEAD + sum(sizes)]
         cases.append(Case(len(cases) + 1, kind, first, second, saved, words(parts[0]), words(parts[1]), list(parts[2][:counts[2]]),
                           words(parts[3]), list(parts[4][:counts[4]]), words(parts[5]), expected))
-        at, answered = at + 96 + sum(sizes), answered + len(expected)
+        at, answered = at + CASE_HEAD + sum(sizes), answered + len(expected)
     if answered != len(answers):
         raise Malformed(f'{path.name}: the answers go on after the last case')
     return cases

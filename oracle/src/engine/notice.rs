@@ -1,7 +1,9 @@
 //! 01, "Notices and interrupts": what a notice holds, posting, and the interrupts.
 
 use super::layout::{ListIndex, NEXT};
-use super::{Machine, QueueName, Reply};
+use super::machine::Machine;
+use super::reply::Reply;
+use super::saved::QueueName;
 use crate::wrong::Wrong;
 
 /// "Interrupts, summed".

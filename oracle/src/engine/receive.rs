@@ -2,10 +2,11 @@
 
 use super::arrival::*;
 use super::layout::{ListIndex, SlotIndex};
+use super::machine::Machine;
 use super::notice::Notice;
 use super::packet::{check, Packet};
+use super::reply::{Answer, Outcome, Reply};
 use super::slot::{self, in_range, Slot};
-use super::{Answer, Machine, Outcome, Reply};
 use crate::wrong::Wrong;
 
 /// The steps' statuses.

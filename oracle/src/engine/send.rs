@@ -2,9 +2,10 @@
 
 use super::descriptor::*;
 use super::layout::{ListIndex, DESCRIPTORS, DESCRIPTOR_WORDS};
+use super::machine::Machine;
 use super::notice::Notice;
 use super::packet::{check, LONGEST};
-use super::{Answer, Machine, Outcome, Reply};
+use super::reply::{Answer, Outcome, Reply};
 use crate::wrong::Wrong;
 
 impl Machine {

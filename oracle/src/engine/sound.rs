@@ -2,7 +2,9 @@
 
 use super::descriptor::Descriptor;
 use super::layout::*;
-use super::{Machine, QueueName, Reply};
+use super::machine::Machine;
+use super::reply::Reply;
+use super::saved::QueueName;
 use crate::wrong::Wrong;
 
 /// PCSR0: "reset 1, enable 1, reserved 10, incarnation 4, node 16"; "reserved bits or a node
@@ -16,6 +18,11 @@ pub fn is_pointer(value: u32, ram_words: usize) -> bool {
 }
 
 impl Machine {
+    pub(super) fn check_sizes_and_sound(&self) -> Result<(), Reply> {
+        self.check_sizes()?;
+        self.check_sound()
+    }
+
     /// sizes: "a memory has another size".
     pub(super) fn check_sizes(&self) -> Result<(), Reply> {
         let notices = self.notices.len();

@@ -2,7 +2,9 @@
 //! place to that next, returns the block to NBQR."
 
 use super::layout::{BlockAddress, ListIndex, BLOCK_WORDS, NEXT};
-use super::{Answer, Machine, Outcome, QueueName, Reply};
+use super::machine::Machine;
+use super::reply::{Answer, Outcome, Reply};
+use super::saved::QueueName;
 use crate::wrong::Wrong;
 
 impl Machine {

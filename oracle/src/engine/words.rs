@@ -3,8 +3,10 @@
 
 use super::descriptor::{control1, status2, Descriptor, BYTES_TO_GO, CONTROL1, STATUS2};
 use super::layout::*;
+use super::machine::Machine;
+use super::map::{Ram, Register};
+use super::reply::Reply;
 use super::slot;
-use super::{Machine, Ram, Register, Reply};
 use crate::wrong::Wrong;
 
 impl Machine {
@@ -44,6 +46,13 @@ impl Machine {
             _ => unreachable!("{register:?} is not a register of a RAM"),
         };
         (ram, address as usize / 4)
+    }
+
+    pub(super) fn pointer(&mut self, ram: Ram) -> &mut u32 {
+        match ram {
+            Ram::Send => &mut self.saved.send_pointer,
+            Ram::Receive => &mut self.saved.receive_pointer,
+        }
     }
 
     /// "word then pointer plus 4"; "returns to 0 after the last word".

@@ -1,46 +1,9 @@
-//! Packets delivered as sent, in mixed order, twice, or damaged; and what never was a packet.
+//! Packets damaged, and what never was a packet.
 
 use super::driver::Driver;
-use super::forge::spoil;
-use crate::draft::Draft;
 use crate::engine::packet::check;
 
 impl Driver<'_> {
-    /// A packet in flight arrives: mostly the first, mostly whole.
-    pub fn deliver(&mut self) {
-        if self.flight.is_empty() {
-            return self.forge();
-        }
-        let place = if self.rng.chance(60) {
-            0
-        } else {
-            self.rng.index(self.flight.len())
-        };
-        let mut packet = if self.rng.chance(90) {
-            self.flight.remove(place)
-        } else {
-            self.flight[place].clone()
-        };
-        let slot = u32::from(packet[4]) << 8 | u32::from(packet[5]);
-        match self.rng.below(10) {
-            0 => packet = self.damaged(packet),
-            1 => packet = self.altered(packet),
-            _ => {}
-        }
-        self.receive_and_look(packet, slot);
-    }
-
-    /// With other fields and the checks computed again.
-    fn altered(&mut self, packet: Vec<u8>) -> Vec<u8> {
-        match Draft::of(&packet) {
-            Some(mut draft) => {
-                spoil(&self.machine, &mut self.rng, &mut draft);
-                draft.encode()
-            }
-            None => packet,
-        }
-    }
-
     /// Damaged in a bit or a byte, cut, or lengthened, the checks left as they were.
     pub fn damaged(&mut self, mut packet: Vec<u8>) -> Vec<u8> {
         let place = self.rng.index(packet.len());

@@ -154,21 +154,6 @@ impl Driver<'_> {
         }
     }
 
-    /// What a driver of the station does after an interrupt: both queues read to their end,
-    /// interrupt bits cleared.
-    pub fn settle(&mut self) {
-        for (register, name) in [(0x014, QueueName::Nqr), (0x018, QueueName::Aqr)] {
-            for _ in 0..self.machine.saved.queue(name).length.min(40) {
-                self.read(register);
-            }
-        }
-        let value = self.rng.below(4) << 29 & self.rng.pick(&[0, u32::MAX]);
-        self.write(0x004, value);
-        if self.rng.chance(50) {
-            self.forge();
-        }
-    }
-
     /// PCSR1, written with all patterns of its bits.
     pub fn pcsr1(&mut self) {
         let value = match self.rng.below(4) {

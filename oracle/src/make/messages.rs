@@ -1,12 +1,14 @@
-//! Messages programmed into descriptors, stopped, touched, and sent.
+//! Messages programmed into descriptors, stopped, touched, and sent; their packets delivered, in
+//! mixed order, twice, or damaged.
 
 use super::driver::Driver;
-use super::forge::open_size;
+use super::forge::{open_size, spoil};
 use super::plans::{bend, plan, Goal};
 use crate::call::Call;
+use crate::draft::Draft;
 use crate::engine::descriptor::{control1, Descriptor, CONTROL1, METADATA};
 use crate::engine::layout::{ListIndex, DESCRIPTORS};
-use crate::engine::{Ram, Reply};
+use crate::engine::{QueueName, Ram, Reply};
 
 impl Driver<'_> {
     /// A goal, mostly one where the message will be taken.
@@ -147,6 +149,56 @@ impl Driver<'_> {
                     }
                 }
             }
+        }
+    }
+
+    /// What a driver of the station does after an interrupt: both queues read to their end,
+    /// interrupt bits cleared.
+    pub fn settle(&mut self) {
+        for (register, name) in [(0x014, QueueName::Nqr), (0x018, QueueName::Aqr)] {
+            for _ in 0..self.machine.saved.queue(name).length.min(40) {
+                self.read(register);
+            }
+        }
+        let value = self.rng.below(4) << 29 & self.rng.pick(&[0, u32::MAX]);
+        self.write(0x004, value);
+        if self.rng.chance(50) {
+            self.forge();
+        }
+    }
+
+    /// A packet in flight arrives: mostly the first, mostly whole.
+    pub fn deliver(&mut self) {
+        if self.flight.is_empty() {
+            return self.forge();
+        }
+        let place = if self.rng.chance(60) {
+            0
+        } else {
+            self.rng.index(self.flight.len())
+        };
+        let mut packet = if self.rng.chance(90) {
+            self.flight.remove(place)
+        } else {
+            self.flight[place].clone()
+        };
+        let slot = u32::from(packet[4]) << 8 | u32::from(packet[5]);
+        match self.rng.below(10) {
+            0 => packet = self.damaged(packet),
+            1 => packet = self.altered(packet),
+            _ => {}
+        }
+        self.receive_and_look(packet, slot);
+    }
+
+    /// With other fields and the checks computed again.
+    fn altered(&mut self, packet: Vec<u8>) -> Vec<u8> {
+        match Draft::of(&packet) {
+            Some(mut draft) => {
+                spoil(&self.machine, &mut self.rng, &mut draft);
+                draft.encode()
+            }
+            None => packet,
         }
     }
 }

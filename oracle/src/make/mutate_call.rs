@@ -3,9 +3,9 @@
 use super::blocks::{any_block, odd_address};
 use super::forge::{good_draft, open_size, spoil};
 use super::looks::{any_register, value_for_register};
-use super::mutate_deep::waiting;
 use super::plans::bend;
 use super::planting::{plant, some_plan};
+use super::staging::waiting;
 use crate::engine::descriptor::{status2, BYTES_TO_GO, CONTROL1, STATUS2};
 use crate::engine::layout::{DESCRIPTORS, DESCRIPTOR_WORDS, LISTS_FROM, NQR_FROM, SLOTS};
 use crate::engine::Ram;

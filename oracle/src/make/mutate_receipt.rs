@@ -1,7 +1,7 @@
 //! Changes of the slot that a received packet addresses.
 
-use super::mutate_deep::{make_room, stage_posting, tokens};
 use super::planting::plant_some;
+use super::staging::{make_room, stage_posting, tokens};
 use crate::draft::{Draft, ACK_PKT, DST_SLOT, META_FLAG, META_LEN, MSG_SIZE, OFFSET, USE_MSG_SIZE};
 use crate::engine::layout::{ListIndex, SlotIndex, LARGEST_24, QUEUE_ENTRIES, SLOT_WORDS};
 use crate::raw::Case;

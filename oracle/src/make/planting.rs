@@ -1,7 +1,7 @@
 //! Descriptors made active in the middle of things.
 
-use super::mutate_deep::stage_posting;
 use super::plans::{bend, plan, Goal};
+use super::staging::stage_posting;
 use crate::engine::descriptor::*;
 use crate::engine::layout::{ListIndex, DESCRIPTORS, DESCRIPTOR_WORDS, LARGEST_24};
 use crate::engine::Machine;

@@ -1,7 +1,7 @@
 //! 01, "Bench set".
 
-use super::{Machine, Reply};
 use crate::draft::*;
+use crate::engine::{Machine, Reply};
 
 const SLOT_CONTROL: u32 = 1 << 15; // valid
 const DO_ACKS: u32 = 1 << 13;
