@@ -13,12 +13,12 @@ use Rattle.ground.specs.Lists.{over}
 use Rattle.ground.proofs.Choice.{pick-holds}
 use Rattle.ground.proofs.Lists.{length-part, getD-sets-after}
 use Rattle.ground.proofs.Tests.{and-left, and-right, or-second}
-use Rattle.rules.specs.Memory.{Machine, list, block, lists, headWord, tokenWord, placeWord, slotFirst, slotWord, metadataWords}
+use Rattle.rules.specs.Memory.{Machine, list, block, lists, headWord, tokenWord, placeWord, slotFirst, slotWord}
 use Rattle.rules.specs.Saved.{withLastSender}
 use Rattle.rules.specs.Board.{Board, board, onReceive}
 use Rattle.rules.specs.Notices.{placeOf, pushNbqr, canPostAll, postAll}
 use Rattle.rules.specs.Packet.{packetOf}
-use Rattle.rules.specs.Slots.{slotAt, storeSlot}
+use Rattle.rules.specs.Slots.{slotAt, slotWords, storeSlot}
 use Rattle.rules.specs.Receipt.{slotAfter, receiptPosting, hasRoomFor, slotStored, aqrEntry, aqrStored, countedBy, receivedOnBoard, received}
 use Rattle.rules.specs.Sending.{descriptorAt, isActive, isReady, sendPosting}
 use Rattle.rules.specs.Registers.{decode, stepped, shownItself}
@@ -123,12 +123,10 @@ write-step m r v (Writing.StoresReceive w) h d = rw (step-queue r (m .saved)) (s
 slot-stored : (b : Board) (i : SlotIndex) (v : Slot) → i .0 < 64 → Quiet b (onReceive (λ r. storeSlot r i v) b)
 unfolding storeSlot
 slot-stored b i v lt =
-    let vs : List ℕ =
-    v .base ∷ v .size ∷ v .noteandflags ∷ v .bytestogo ∷ v .msgsize ∷ v .msgoffset ∷ v .acknote ∷ v .metaword ∷ metadataWords (v .metadata) in
     record {
       queue = refl;
-      alike = alike-slots (b .receive) (slotFirst i) vs (omega arith);
-      token = λ l h. getD-sets-after (b .receive) (slotFirst i) vs (tokenWord l) 0 (omega arith);
+      alike = alike-slots (b .receive) (slotFirst i) (slotWords v) (omega arith);
+      token = λ l h. getD-sets-after (b .receive) (slotFirst i) (slotWords v) (tokenWord l) 0 (omega arith);
       notices = refl;
     }
 

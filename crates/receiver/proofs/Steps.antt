@@ -22,13 +22,12 @@ use Rattle.rules.specs.Words.{offset}
 use Rattle.rules.specs.Memory.{slotsMost, slotFirst}
 use Rattle.rules.specs.Packet.{payloadOf, packetOf}
 use Rattle.rules.specs.Saved.{withCounts, counted}
-use Rattle.rules.specs.Slots.{slotAt, storeSlot}
+use Rattle.rules.specs.Slots.{slotAt, slotWords, storeSlot}
 use Rattle.rules.specs.Board.{Board, board, onSaved}
 use Rattle.rules.specs.Notices.{postAll, pushAqr}
 use Rattle.rules.specs.Receipt.{slotAfter, receiptPosting, needsAqr}
 use Rattle.rules.specs.Receipt.{aqrEntry, slotStored, payloadStored, aqrStored, countedBy, receivedOnBoard, received}
 use Rattle.rules.specs.Calls.{receiptReply, actReceive}
-use Rattle.tables.proofs.Rows.{slotWords}
 use Rattle.packet.specs.Packet.{Landing}
 use Rattle.notices.specs.declared.Step.{Step}
 use Rattle.notices.specs.Steps.{Pushable, Does, Posts, PostableAll}

@@ -56,34 +56,24 @@ pub(crate) fn landed(p: Packet, v: Slot) -> Slot
     let new = p.metadata;
     let old = v.metadata;
     let metadata = metadata_if(flagged, new, old);
-    Slot {
-        base: v.base,
-        size: v.size,
-        noteandflags: v.noteandflags,
-        bytestogo: new_bytes_to_go(p, v),
-        msgsize: word_if(use_msg_size, msg_size, v.msgsize),
-        msgoffset: word_if(use_msg_offset, offset, v.msgoffset),
-        acknote: v.acknote,
-        metaword: word_if(flagged, flag_and_length, v.metaword),
-        metadata,
-    }
+    let mut left = v;
+    left.bytestogo = new_bytes_to_go(p, v);
+    left.msgsize = word_if(use_msg_size, msg_size, v.msgsize);
+    left.msgoffset = word_if(use_msg_offset, offset, v.msgoffset);
+    left.metaword = word_if(flagged, flag_and_length, v.metaword);
+    left.metadata = metadata;
+    left
 }
 
 // At a message's end words 7 to 11 go to 0; msg_size and msg_offset stay.
 fn finished(v: Slot) -> Slot
     ensures { λ r. ⌜ r ≡ rule.finished v ⌝ }
 {
-    Slot {
-        base: v.base,
-        size: v.size,
-        noteandflags: v.noteandflags,
-        bytestogo: v.bytestogo,
-        msgsize: v.msgsize,
-        msgoffset: v.msgoffset,
-        acknote: v.acknote,
-        metaword: 0,
-        metadata: NO_METADATA,
-    }
+    let metadata = NO_METADATA;
+    let mut slot = v;
+    slot.metaword = 0;
+    slot.metadata = metadata;
+    slot
 }
 
 // The slot after the packet.

@@ -1,13 +1,10 @@
 -- The steps of a read, put together. Assumes nothing.
 use mathlib.Core.Path.{_≡_, refl, sym, ap, _∙_}
-use mathlib.Core.Bool.{Bool, true, false, _&&_, true≢false}
+use mathlib.Core.Bool.{Bool, true, false, true≢false}
 use mathlib.Core.List.{List, []}
 use Prim.Native.Nat.{ℕ, _+_, _-_, _*_, _/_, _%_, _<_, _≤_}
 use native.Mathlib.Omega.{arith}
-use borrow.Author.Tests.{ltb-true}
-use lib.Dec.{ltb}
 use lib.ListN.{length, getD}
-use Rattle.ground.proofs.Tests.{and-left, and-right}
 use Rattle.rules.specs.declared.Answer.{Answer}
 use Rattle.rules.specs.declared.Mapped.{Mapped}
 use Rattle.rules.specs.declared.Reach.{Reach}
@@ -49,8 +46,8 @@ slot-shows f v n e word = record { whole = λ receive i is. rw (e, is) (word rec
 pub above : (n : ℕ) {k : ℕ} → n - 1 ≤ k → (k ≡ n - 1 → ⊥) → n ≤ k
 above n h e = omega arith
 
--- The last of the twelve words.
-pub last : {k : ℕ} → k < 12 → 11 ≤ k → k ≡ 11
+-- The last of the sixteen words.
+pub last : {k : ℕ} → k < 16 → 15 ≤ k → k ≡ 15
 last h l = omega arith
 
 pub any : {k : ℕ} → 0 ≤ k
@@ -58,14 +55,6 @@ any = omega arith
 
 -- None of the words before the last.
 pub ruleset last-word = (last, any, above)
-
--- A word of the twelve of a slot.
-module _ (i : ℕ) (h : (ltb i 1024 && ltb (i % 16) 12) ≡ true) where
-  pub slot-low : i / 16 < 64
-  slot-low = let low : i < 1024 = ltb-true _ _ (and-left _ _ h) in omega arith
-
-  pub word-low : i % 16 < 12
-  word-low = ltb-true _ _ (and-right (ltb i 1024) _ h)
 
 -- The slot, and its word.
 pub slot-read : (receive : List ℕ) (i : ℕ) {v : Slot} {word : ℕ} → v ≡ slotAt receive (slot (i / 16)) → SlotShows v (i % 16) word

@@ -1,5 +1,5 @@
 -- What a write stores, put together from what the code reads and stores. Assumes nothing.
-use mathlib.Core.Path.{_≡_, refl, sym, ap, _∙_}
+use mathlib.Core.Path.{_≡_, sym, ap, _∙_}
 use mathlib.Core.List.{List, [], _∷_}
 use mathlib.Core.Logic.{_≢_}
 use Prim.Native.Nat.{ℕ, _+_, _*_, _<_}
@@ -18,69 +18,46 @@ use Rattle.rules.specs.declared.Saved.{Saved}
 use Rattle.rules.specs.declared.SendStore.{SendStore}
 use Rattle.rules.specs.declared.Slot.{Slot}
 use Rattle.rules.specs.declared.SlotIndex.{SlotIndex}
-use Rattle.rules.specs.Memory.{slotFirst, slotWord, headWord, placeWord, noMetadata}
-use Rattle.rules.specs.Slots.{slotAt, storeSlot}
+use Rattle.rules.specs.Memory.{slotFirst, slotWord, headWord, placeWord}
+use Rattle.rules.specs.Slots.{slotAt, slotWords, storeSlot}
 use Rattle.rules.specs.Sending.{descriptorAt, storeDescriptor, started}
 use Rattle.rules.specs.Writes.{numberSet, sendStored, receiveStored}
-use Rattle.tables.proofs.Rows.{slotWords}
 use Rattle.registers.specs.Writing.{InSend, InReceive, PlainWord, HasWord, HasWord2}
 
 -- ---- slots
 
+-- `towards-suc` knows sums with 8 at most.
+add-12 : (n : ℕ) → n + 12 ≡ n + 8 + 4
+add-12 n = omega arith
+
+add-13 : (n : ℕ) → n + 13 ≡ n + 8 + 5
+add-13 n = omega arith
+
+add-14 : (n : ℕ) → n + 14 ≡ n + 8 + 6
+add-14 n = omega arith
+
+add-15 : (n : ℕ) → n + 15 ≡ n + 8 + 7
+add-15 n = omega arith
+
 -- A slot that is stored where it was read changes nothing.
 store-read : (receive : List ℕ) (i : SlotIndex) → storeSlot receive i (slotAt receive i) ≡ receive
 unfolding storeSlot slotAt
-store-read receive i = simp (towards-suc, set-getD)
+store-read receive i = simp (add-12, add-13, add-14, add-15, towards-suc, set-getD)
 
--- The slot with other words 0, 1 and 6.
-abbrev withPlain : ℕ → ℕ → ℕ → Slot → Slot
-withPlain base size acknote x =
-    record {
-      base = base;
-      size = size;
-      noteandflags = x .noteandflags;
-      bytestogo = x .bytestogo;
-      msgsize = x .msgsize;
-      msgoffset = x .msgoffset;
-      acknote = acknote;
-      metaword = x .metaword;
-      metadata = x .metadata;
-    }
+-- A slot whose row is another's with v in word j.
+pub has-word : (x y : Slot) (k v j : ℕ) → k ≡ j → j < 16 → set (slotWords x) j v ≡ slotWords y → HasWord k v x y
+unfolding storeSlot receiveStored
+has-word x y k v j e low row =
+    record { whole = λ receive i. rw e (ap (sets receive (slotFirst i)) (sym row) ∙ sym (set-in receive (slotFirst i) (slotWords x) j v low)) }
 
-module _ (x : Slot) (k v : ℕ) where
-  -- A slot whose row has v in word j.
-  has-word : (y : Slot) (j : ℕ) → k ≡ j → j < 12 → set (slotWords x) j v ≡ slotWords y → HasWord k v x y
-  unfolding storeSlot receiveStored
-  has-word y j e low row =
-      record {
-        whole = λ receive i. rw e (ap (sets receive (slotFirst i)) (sym row) ∙ sym (set-in receive (slotFirst i) (slotWords x) j v low));
-      }
-
-  pub has-base : k ≡ 0 → HasWord k v x (withPlain v (x .size) (x .acknote) x)
-  has-base e = has-word _ 0 e (omega arith) refl
-
-  pub has-size : k ≡ 1 → HasWord k v x (withPlain (x .base) v (x .acknote) x)
-  has-size e = has-word _ 1 e (omega arith) refl
-
-  pub has-acknote : PlainWord k → k ≢ 0 → k ≢ 1 → HasWord k v x (withPlain (x .base) (x .size) v x)
-  has-acknote p h g = has-word _ 6 (p .other h g) (omega arith) refl
+-- A plain word that is neither word 0 nor word 1.
+pub other-word : {k : ℕ} → PlainWord k → k ≢ 0 → k ≢ 1 → k ≡ 6
+other-word p h g = p .other h g
 
 -- Word 2, with the words that go to 0.
-pub has-word2 : (x : Slot) (v : ℕ)
-    → HasWord2 v x
-    (record {
-      base = x .base;
-      size = x .size;
-      noteandflags = v;
-      bytestogo = 0;
-      msgsize = 0;
-      msgoffset = 0;
-      acknote = x .acknote;
-      metaword = 0;
-      metadata = noMetadata;
-    })
+pub has-word2 : (x y : Slot) (v : ℕ) → sets (sets (slotWords x) 2 (v ∷ 0 ∷ 0 ∷ 0 ∷ [])) 7 (0 ∷ 0 ∷ 0 ∷ 0 ∷ 0 ∷ []) ≡ slotWords y → HasWord2 v x y
 unfolding storeSlot receiveStored
-has-word2 x v =
+has-word2 x y v row =
     let low : List ℕ = v ∷ 0 ∷ 0 ∷ 0 ∷ [] in
     let high : List ℕ = 0 ∷ 0 ∷ 0 ∷ 0 ∷ 0 ∷ [] in
     record {
@@ -88,7 +65,7 @@ has-word2 x v =
           λ receive i.
           let one = sets-in receive (slotFirst i) (slotWords x) 2 low (omega arith) in
           let two = sets-in receive (slotFirst i) (sets (slotWords x) 2 low) 7 high (omega arith) in
-          sym (ap (λ (t : List ℕ). sets t (slotWord i 7) high) one ∙ two);
+          sym (ap (λ (t : List ℕ). sets t (slotWord i 7) high) one ∙ two ∙ ap (sets receive (slotFirst i)) row);
     }
 
 -- A slot that was read is what stands there.

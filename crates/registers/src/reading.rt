@@ -123,9 +123,9 @@ fn shown_itself(s: Saved, receive: &[u32], x: Register) -> Shown
     }
 }
 
-// Word k of a slot, below 12.
+// Word k of a slot.
 fn slot_word(v: Slot, k: u32) -> u32
-    requires { ⌜ k < 12 ⌝ }
+    requires { ⌜ k < 16 ⌝ }
     ensures { λ r. ⌜ SlotShows v k r ⌝ }
 {
     let m = v.metadata;
@@ -141,16 +141,20 @@ fn slot_word(v: Slot, k: u32) -> u32
         8 => m.a,
         9 => m.b,
         10 => m.c,
-        _ => m.d,
+        11 => m.d,
+        12 => v.lock,
+        13 => v.mark,
+        14 => v.namea,
+        _ => v.nameb,
     }
 }
 
-// A word of Receive RAM; a slot's words 0 to 11 are read with their slot.
+// A word of Receive RAM; a slot's words are read with their slot.
 fn receive_word(receive: &[u32], i: u32) -> u32
     requires { ⌜ InsideReceive (now receive) i ⌝ }
     ensures { λ r. ⌜ r ≡ getD (now (receive .entry)) i 0 ⌝ }
 {
-    if (i < 1024) & (i % 16 < 12) {
+    if i < 1024 {
         let slot = tables::slot_at(receive, SlotIndex(i / 16));
         return slot_word(slot, i % 16);
     }

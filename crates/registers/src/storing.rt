@@ -135,22 +135,20 @@ fn with_word(x: Slot, k: u32, v: u32) -> Slot
 fn with_word2(x: Slot, v: u32) -> Slot
     ensures { λ r. ⌜ HasWord2 v x r ⌝ }
 {
-    Slot {
-        base: x.base,
-        size: x.size,
-        noteandflags: v,
-        bytestogo: 0,
-        msgsize: 0,
-        msgoffset: 0,
-        acknote: x.acknote,
-        metaword: 0,
-        metadata: Metadata {
-            a: 0,
-            b: 0,
-            c: 0,
-            d: 0,
-        },
-    }
+    let no_metadata = Metadata {
+        a: 0,
+        b: 0,
+        c: 0,
+        d: 0,
+    };
+    let mut slot = x;
+    slot.noteandflags = v;
+    slot.bytestogo = 0;
+    slot.msgsize = 0;
+    slot.msgoffset = 0;
+    slot.metaword = 0;
+    slot.metadata = no_metadata;
+    slot
 }
 
 // A slot's word 0, 1 or 6.

@@ -1,14 +1,14 @@
 -- "Receipt", a slot: its words, and when it is valid. Assumes nothing.
 use Rattle.ground.specs.Field.{field, flag}
 use Rattle.ground.specs.Signed.{signed}
-use Rattle.rules.specs.Types.{ℕ, _+_, Bool, not, _&&_, _||_, List, _∷_, eqb, ltb, leb, getD, sets, ℤ, natAbs, SlotIndex, Metadata, Slot}
+use Rattle.rules.specs.Types.{ℕ, _+_, Bool, not, _&&_, _||_, List, [], _∷_, eqb, ltb, leb, getD, sets, ℤ, natAbs, SlotIndex, Metadata, Slot}
 use Rattle.rules.specs.Words.{most24, metaPart}
-use Rattle.rules.specs.Memory.{slotFirst, slotWord, lists, metadataAt, metadataWords}
+use Rattle.rules.specs.Memory.{slotFirst, slotWord, lists, metadataAt}
 
 -- ---- a slot's words
 
 -- "Slot words: base; size; note_index 16, valid, indirect, do_acks, notify, reserve 12; bytes_to_go, signed; msg_size;
--- msg_offset; ack_note_index 16, unused 16; meta flag and length as in packet word 3; metadata 8 to 11."
+-- msg_offset; ack_note_index 16, unused 16; meta flag and length as in packet word 3; metadata 8 to 11." No rule reads words 12 to 15.
 unfoldable pub slotAt : List ℕ → SlotIndex → Slot
 slotAt receive i =
     record {
@@ -21,13 +21,21 @@ slotAt receive i =
       acknote = getD receive (slotWord i 6) 0;
       metaword = getD receive (slotWord i 7) 0;
       metadata = metadataAt receive (slotWord i 8);
+      lock = getD receive (slotWord i 12) 0;
+      mark = getD receive (slotWord i 13) 0;
+      namea = getD receive (slotWord i 14) 0;
+      nameb = getD receive (slotWord i 15) 0;
     }
 
--- Words 0 to 11 stored.
+-- The sixteen words as a row.
+abbrev pub slotWords : Slot → List ℕ
+slotWords v =
+    v .base ∷ v .size ∷ v .noteandflags ∷ v .bytestogo ∷ v .msgsize ∷ v .msgoffset ∷ v .acknote ∷ v .metaword
+    ∷ v .metadata .a ∷ v .metadata .b ∷ v .metadata .c ∷ v .metadata .d ∷ v .lock ∷ v .mark ∷ v .namea ∷ v .nameb ∷ []
+
+-- A slot stored, whole.
 unfoldable pub storeSlot : List ℕ → SlotIndex → Slot → List ℕ
-storeSlot receive i v =
-    sets receive (slotFirst i)
-    (v .base ∷ v .size ∷ v .noteandflags ∷ v .bytestogo ∷ v .msgsize ∷ v .msgoffset ∷ v .acknote ∷ v .metaword ∷ metadataWords (v .metadata))
+storeSlot receive i v = sets receive (slotFirst i) (slotWords v)
 
 -- The slot with other words 3, 4, 5 and 7 to 11: bytes_to_go, msg_size, msg_offset, the meta word, the metadata.
 abbrev pub withMessage : ℕ → ℕ → ℕ → ℕ → Metadata → Slot → Slot
@@ -42,6 +50,10 @@ withMessage bytestogo msgsize msgoffset metaword metadata v =
       acknote = v .acknote;
       metaword = metaword;
       metadata = metadata;
+      lock = v .lock;
+      mark = v .mark;
+      namea = v .namea;
+      nameb = v .nameb;
     }
 
 -- ---- word 2: note_index 16 (31-16), valid (15), indirect (14), do_acks (13), notify (12), reserve 12 (11-0)

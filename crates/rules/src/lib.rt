@@ -66,7 +66,7 @@ pub struct Descriptor {
     pub metadata: Metadata,
 }
 
-// A slot's words 0 to 11.
+// A slot's sixteen words; no rule reads words 12 to 15 (lock, mark, namea, nameb).
 pub struct Slot {
     pub base: u32,
     pub size: u32,
@@ -77,6 +77,10 @@ pub struct Slot {
     pub acknote: u32,
     pub metaword: u32,
     pub metadata: Metadata,
+    pub lock: u32,
+    pub mark: u32,
+    pub namea: u32,
+    pub nameb: u32,
 }
 
 // A packet's words 0 to 3. (address1 and control1 are document 003's names for words 1 and 3.)

@@ -1,4 +1,4 @@
-// The 64 slots, 16 words each from word 0 of Receive RAM on: these two alone read and store words 0 to 11 (a reset clears the whole RAM).
+// The 64 slots, 16 words each from word 0 of Receive RAM on: these two alone read and store them (a reset clears the whole RAM).
 use crate::metadata_at;
 use rules::Slot;
 use rules::SlotIndex;
@@ -7,7 +7,7 @@ ghost use Prim.Native.Nat.{_<_};
 ghost use lib.ListN.{length};
 ghost use Rattle.rules.specs.Slots.{slotAt, storeSlot};
 
-// Words 0 to 11 of a slot.
+// The sixteen words of a slot.
 pub fn slot_at(receive: &[u32], i: SlotIndex) -> Slot
     requires { ⌜ (i .0 < 64) × (length (now receive) ≡ 2048) ⌝ }
     ensures { λ r. ⌜ r ≡ slotAt (now (receive .entry)) i ⌝ }
@@ -23,10 +23,14 @@ pub fn slot_at(receive: &[u32], i: SlotIndex) -> Slot
         acknote: receive[first + 6],
         metaword: receive[first + 7],
         metadata: metadata_at(receive, first + 8),
+        lock: receive[first + 12],
+        mark: receive[first + 13],
+        namea: receive[first + 14],
+        nameb: receive[first + 15],
     }
 }
 
-// Words 0 to 11 stored.
+// The sixteen words stored.
 pub fn store_slot(receive: &mut [u32], i: SlotIndex, v: Slot)
     requires { ⌜ (i .0 < 64) × (length (now receive) ≡ 2048) ⌝ }
     ensures { λ _. ⌜ now (receive .exit) ≡ storeSlot (now (receive .entry)) i v ⌝ }
@@ -45,6 +49,10 @@ pub fn store_slot(receive: &mut [u32], i: SlotIndex, v: Slot)
         m.b,
         m.c,
         m.d,
+        v.lock,
+        v.mark,
+        v.namea,
+        v.nameb,
     ];
     words::store(receive, 16 * i.0 as usize, &row);
 }

@@ -1,2 +1,0 @@
--- What the proofs above share of slots. Assumes nothing.
-pub mod Rows
