@@ -71,7 +71,7 @@ def fields(metaflag=False, metalen=0, payload=()):
 def slot(msgsize, msgoffset):
     """A slot that has no other words."""
     return SimpleNamespace(base=0, size=0, noteandflags=0, bytestogo=0, msgsize=msgsize, msgoffset=msgoffset, acknote=0, metaword=0,
-                           metadata=SimpleNamespace(a=0, b=0, c=0, d=0))
+                           metadata=SimpleNamespace(a=0, b=0, c=0, d=0), lock=0, mark=0, namea=0, nameb=0)
 
 
 # The header of a packet of node 9 to slot 5 of node 7, with msg_size 8.
