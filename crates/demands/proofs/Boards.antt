@@ -14,10 +14,10 @@ use Rattle.rules.specs.Memory.{list, block, lists, headWord, placeWord, nbqrFro
 use Rattle.rules.specs.Queues.{oldest, removed}
 use Rattle.rules.specs.Board.{Board, board}
 use Rattle.rules.specs.Notices.{headOf, tokenOf, enqueues, token, placeOf, blockWords, pushNbqr, canPost, canPostAll, fillHead, enqueueToken, post, postAll, takeBlock}
+use Rattle.laws.proofs.Sound.{tests}
 use Rattle.demands.specs.Types.{Queue, Saved, ListIndex, BlockAddress, Notice, Posting}
 use Rattle.demands.specs.Runs.{Act, posts, postingAct}
 use Rattle.demands.specs.Places.{entries}
-use Rattle.demands.proofs.Judged.{tests}
 use Rattle.demands.proofs.Choices.{Listed}
 use Rattle.demands.proofs.Blocks.{next}
 use Rattle.demands.proofs.View.{View, given, readOn, moved, May}

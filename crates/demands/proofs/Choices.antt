@@ -14,8 +14,8 @@ use Rattle.rules.specs.Memory.{descriptor, descriptors, lists}
 use Rattle.rules.specs.Slots.{slotAt, slotOk, slotNotifies, slotNoteIndex, ackNoteIndex}
 use Rattle.rules.specs.Receipt.{receiptOf, completes, receiptPosting}
 use Rattle.rules.specs.Sending.{goRule, isLast, sendPosting, isReady, firstFrom, nextSender, descriptorAt}
+use Rattle.laws.proofs.Sound.{tests}
 use Rattle.demands.specs.Types.{Saved, DescriptorIndex, Descriptor, Slot, Packet, Posting, Receipt, Found}
-use Rattle.demands.proofs.Judged.{tests}
 
 -- The list that is posted on is one that there is.
 abbrev pub Listed : Posting → Type 0

@@ -21,8 +21,8 @@ use Rattle.rules.specs.Memory.{descriptor, descriptorFirst, descriptorSize, des
 use Rattle.rules.specs.Sending.{descriptorAt, storeDescriptor, isDone, isActive, addressOk, messageSizeOk, goRule, started, nextPayload, isLast, afterPacket, markStalled, withStalled, withoutStalled, withDone}
 use Rattle.rules.specs.Writes.{descriptorWordFixed, starts, stops}
 use Rattle.rules.specs.Sound.{descriptorOk}
+use Rattle.laws.proofs.Sound.{tests}
 use Rattle.demands.specs.Types.{DescriptorIndex, Descriptor}
-use Rattle.demands.proofs.Judged.{tests}
 use Rattle.demands.proofs.Sums.{at-each}
 
 -- Each descriptor that is active keeps the go rule, with a data memory of n bytes.

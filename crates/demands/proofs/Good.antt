@@ -14,9 +14,9 @@ use Rattle.rules.specs.Queues.{entryWord}
 use Rattle.rules.specs.Notices.{headOf, placeOf}
 use Rattle.rules.specs.Sending.{descriptorAt}
 use Rattle.rules.specs.Sound.{isSized, isSound, soundOk, registersOk, queuesOk, headsOk, placesOk, waitingOk, descriptorOk, descriptorsOk}
+use Rattle.laws.specs.Sound.{Block}
 use Rattle.demands.specs.Types.{Queue, Saved}
 use Rattle.demands.specs.Places.{count}
-use Rattle.demands.proofs.Blocks.{Block}
 use Rattle.demands.proofs.Chain.{Tip}
 use Rattle.demands.proofs.Ring.{entries-length, entries-at}
 use Rattle.demands.proofs.Sight.{below-at, view}

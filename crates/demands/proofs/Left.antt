@@ -22,6 +22,7 @@ use Rattle.rules.specs.Sending.{descriptorAt, started, isActive, isReady, sendP
 use Rattle.rules.specs.Registers.{decode}
 use Rattle.rules.specs.Writes.{sendStored, receiveStored}
 use Rattle.rules.specs.Calls.{Call, writes, reads, receives, sends, takes, unknown, perform, unknownCall, judgeRead, readDone, actRead, readCall, judgeWrite, writeDone, actWrite, writeCall, judgeReceive, receiptReply, actReceive, receiveCall, judgeSend, sent, actSend, sendCall, judgeTake, actTake, takeCall}
+use Rattle.laws.proofs.Sound.{sound}
 use Rattle.demands.specs.Types.{Saved, Posting, Packet, Descriptor, SendStore, ReceiveStore, Mapped, Reach, Writing, Receipt, Receiving, Sending, Taking}
 use Rattle.demands.specs.Runs.{clears, writingAct, act}
 use Rattle.demands.specs.History.{answerOf}
@@ -30,7 +31,6 @@ use Rattle.demands.proofs.Sight.{Quiet, quiet-then}
 use Rattle.demands.proofs.Descriptors.{Rules, store-length, mark-length, direct-rules, word-rules, start-rules, sent-rules, mark-rules}
 use Rattle.demands.proofs.Numbers.{Numbers, step-numbers, shown-numbers, number-numbers, aqr-numbers, nbqr-numbers, push-length, TokenFits, token-fits, post-numbers, post-length}
 use Rattle.demands.proofs.Written.{OfSendStore, OfWrite, of-write}
-use Rattle.demands.proofs.Judged.{fit}
 use Rattle.demands.proofs.Choices.{Listed, OfReceipt, of-receipt, receipt-listed, found-ready}
 use Rattle.demands.proofs.Verdicts.{OfReceive, of-receive, OfSend, of-send, OfTake, of-take}
 use Rattle.demands.proofs.Steps.{slot-quiet, aqr-quiet}
@@ -149,7 +149,7 @@ receive-left xs m packet (Receiving.ComesTo r) h g =
     let b₁ : Board = onReceive (slotStored p r) b in
     let b₂ : Board = aqrStored (m .receive) p r b₁ in
     let o : OfReceipt (m .saved) (m .receive) n r = rw (h .1) (of-receipt (m .saved) (m .receive) n packet) in
-    let q : Quiet b b₂ = quiet-then (slot-quiet n p r b o (h .0 .slots)) (aqr-quiet (m .receive) p r b₁) in
+    let q : Quiet b b₂ = quiet-then (slot-quiet n p r b o (h .0 .ranges .slots)) (aqr-quiet (m .receive) p r b₁) in
     let can : Bool = canPostAll (m .saved) (m .receive) post in
     let aqr : Bool = not (needsAqr (m .receive) p r) || hasRoom (m .saved .aqr) in
     let room : needsAqr (m .receive) p r ≡ true → m .saved .aqr .length < 256 =
@@ -182,7 +182,7 @@ send-left m room (Sending.Sends i) h size g =
       numbers =
           post-numbers (sendPosting d) b (token-fits (m .saved) (m .receive) (sendPosting d) (and-right (isActive d) _ (f .0)))
           ((r .0 .0, r .0 .1, r .0 .2, r .0 .3, r .0 .4, r .0 .5, f .1), r .1, r .2, r .3, r .4, r .5);
-      rules = sent-rules (m .send) i (length (m .bytes)) size (f .1) (h .0 .goes (i .0) (f .1) (and-left (isActive d) _ (f .0))) (g .rules);
+      rules = sent-rules (m .send) i (length (m .bytes)) size (f .1) (h .0 .active i (f .1) (and-left (isActive d) _ (f .0))) (g .rules);
     }
 send-left m room (Sending.Waits i) h size g =
     let f = found-ready (m .saved) (m .send) (m .receive) h in
@@ -215,10 +215,10 @@ take-left m l room (Taking.Takes i b n) h g =
 pub call-left : (xs : List ℕ) (c : Call) (m : Machine) → act c m ≢ clears → Good xs m → Left (xs ++ answerOf c m) m (perform c m .machine)
 unfolding act perform answerOf readCall writeCall receiveCall sendCall takeCall unknownCall
 call-left xs (writes a v) m d g =
-    rw append-nil (write-left m (decode a) v (judgeWrite m a v) (of-write m a v) d (fit m (g .sized) (good-sound m g) .send) g)
+    rw append-nil (write-left m (decode a) v (judgeWrite m a v) (of-write m a v) d (sound m (g .sized) (good-sound m g) .sized .send) g)
 call-left xs (reads a) m d g = rw append-nil (read-left m (decode a) (judgeRead m (decode a)) g)
 call-left xs (receives packet) m d g = receive-left xs m packet (judgeReceive m packet) (of-receive m packet) g
 call-left xs (sends ready room) m d g =
-    rw append-nil (send-left m room (judgeSend m ready (length room)) (of-send m ready (length room)) (fit m (g .sized) (good-sound m g) .send) g)
+    rw append-nil (send-left m room (judgeSend m ready (length room)) (of-send m ready (length room)) (sound m (g .sized) (good-sound m g) .sized .send) g)
 call-left xs (takes l room) m d g = rw append-nil (take-left m l room (judgeTake m l (length room)) (of-take m l (length room)) g)
 call-left xs unknown m d g = rw append-nil (saved-left m (m .saved) g (g .numbers))

@@ -19,11 +19,11 @@ use Rattle.rules.specs.Sending.{descriptorAt}
 use Rattle.rules.specs.Writes.{clearDescriptors, reset}
 use Rattle.rules.specs.Sound.{isSized}
 use Rattle.rules.specs.Calls.{Call, perform}
+use Rattle.laws.proofs.Sound.{tests}
 use Rattle.demands.specs.Runs.{Run, start, _▸_, calls, outside, rewritten, afterEvent, after, clears, act}
 use Rattle.demands.specs.History.{gathered, NoReset, begun, AfterReset, answerOf, answers}
 use Rattle.demands.specs.Places.{entries}
 use Rattle.demands.proofs.Reset.{accepted}
-use Rattle.demands.proofs.Judged.{tests}
 use Rattle.demands.proofs.Blocks.{next}
 use Rattle.demands.proofs.Sight.{below-at, view}
 use Rattle.demands.proofs.Steps.{call-step}

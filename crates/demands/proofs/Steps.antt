@@ -24,11 +24,13 @@ use Rattle.rules.specs.Sending.{descriptorAt, isActive, isReady, sendPosting}
 use Rattle.rules.specs.Registers.{decode, stepped, shownItself}
 use Rattle.rules.specs.Writes.{bitsCleared, numberSet, receiveStored}
 use Rattle.rules.specs.Calls.{Call, writes, reads, receives, sends, takes, unknown, perform, unknownCall, judgeRead, readDone, actRead, readCall, judgeWrite, writeDone, actWrite, writeCall, judgeReceive, actReceive, receiveCall, judgeSend, sent, actSend, sendCall, judgeTake, wordsOf, actTake, takeCall}
+use Rattle.laws.specs.Sound.{Block}
+use Rattle.laws.proofs.Sound.{is-block}
 use Rattle.demands.specs.Types.{Queue, Saved, SlotIndex, ListIndex, BlockAddress, Packet, Slot, Descriptor, Number, Mapped, Reach, ReceiveStore, Writing, Receipt, Receiving, Sending, Taking}
 use Rattle.demands.specs.Runs.{rests, clears, storeAct, writingAct, receivingAct, sendingAct, noticeIn, takingAct, act}
 use Rattle.demands.specs.Places.{noticeAt}
 use Rattle.demands.proofs.Access.{after-step, after-shown}
-use Rattle.demands.proofs.Blocks.{Block, is-block, next}
+use Rattle.demands.proofs.Blocks.{next}
 use Rattle.demands.proofs.Chain.{not-bare}
 use Rattle.demands.proofs.View.{View, opened}
 use Rattle.demands.proofs.Ring.{entry, entries-same}
@@ -164,9 +166,9 @@ receive-step m packet (Receiving.ComesTo r) h =
     let o : OfReceipt (m .saved) (m .receive) n r = rw (h .1) (of-receipt (m .saved) (m .receive) n packet) in
     rw (counted-queue r (postAll (receiptPosting (m .receive) p r) b₂ .saved))
     (post-step (receiptPosting (m .receive) p r) b b₂
-    (quiet-then (slot-quiet n p r b o (h .0 .slots)) (aqr-quiet (m .receive) p r b₁))
+    (quiet-then (slot-quiet n p r b o (h .0 .ranges .slots)) (aqr-quiet (m .receive) p r b₁))
     (receipt-listed (m .saved) (m .receive) n p r o)
-    (and-left (canPostAll (m .saved) (m .receive) (receiptPosting (m .receive) p r)) _ (h .2)) (h .0 .queue) (h .0 .receive))
+    (and-left (canPostAll (m .saved) (m .receive) (receiptPosting (m .receive) p r)) _ (h .2)) (h .0 .nbqr .place) (h .0 .sized .receive))
 
 -- ---- sends
 
@@ -181,8 +183,8 @@ send-step m room (Sending.Sends i) h =
     let b : Board = board (m .saved) (m .receive) (m .notices) 0 in
     let b₁ : Board = board (withLastSender (i .0) (m .saved)) (m .receive) (m .notices) 0 in
     post-step (sendPosting d) b b₁ (record { queue = refl; alike = quiet-same b .alike; token = λ l h. refl; notices = refl })
-    (send-listed (length (m .bytes)) d (h .0 .goes (i .0) (f .1) active))
-    (and-right (isActive d) _ (f .0)) (h .0 .queue) (h .0 .receive)
+    (send-listed (length (m .bytes)) d (h .0 .active i (f .1) active))
+    (and-right (isActive d) _ (f .0)) (h .0 .nbqr .place) (h .0 .sized .receive)
 send-step m room (Sending.Waits i) h = rest refl
 
 -- ---- takes
@@ -213,7 +215,7 @@ take-step m l room (Taking.Takes i b n) h =
     let place : b ≡ block p = h .6 ∙ ap (λ (x : ListIndex). block (placeOf (m .receive) x)) e in
     let nz : p ≢ 0 = λ z. h .3 (ap (λ (x : BlockAddress). x .0) place ∙ z) in
     let nx : next (m .notices) p ≢ 0 = λ z. h .4 (ap (λ (x : BlockAddress). x .0) (h .7) ∙ ap (λ (x : BlockAddress). next (m .notices) (x .0)) place ∙ z) in
-    let k : Block (length (m .notices)) p = is-block (length (m .notices)) p (or-second (eqb p 0) _ (h .0 .place l lt) (ne-eqb p 0 nz)) in
+    let k : Block (length (m .notices)) p = is-block (length (m .notices)) p (or-second (eqb p 0) _ (h .0 .places (list l) lt) (ne-eqb p 0 nz)) in
     let at : places (m .receive) l ≡ view m .place l = sym (below-at (places (m .receive)) l lt) in
     rw (h .7, place, e) (record {
       may = (
@@ -221,7 +223,7 @@ take-step m l room (Taking.Takes i b n) h =
         notice-over (wordsOf (m .notices) (block p)) room (length-part _ 8 (m .notices) (k .inside)) ∙ ap (noticeAt (m .notices)) at,
         rw (← at) (not-bare (m .notices) p nz nx),
       );
-      is = take-view (list l) (board (m .saved) (m .receive) (m .notices) 0) (h .0 .receive) lt (h .2);
+      is = take-view (list l) (board (m .saved) (m .receive) (m .notices) 0) (h .0 .sized .receive) lt (h .2);
     })
 
 -- ---- any call

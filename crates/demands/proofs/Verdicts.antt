@@ -18,8 +18,9 @@ use Rattle.rules.specs.Registers.{reach}
 use Rattle.rules.specs.Sound.{isSized, isSound}
 use Rattle.rules.specs.Replies.{refusalNumber}
 use Rattle.rules.specs.Calls.{gate, judgeRead, receipt, judgeReceive, sendingOf, judgeSend, judgeTake}
+use Rattle.laws.specs.Sound.{Sound}
+use Rattle.laws.proofs.Sound.{sound}
 use Rattle.demands.specs.Types.{Refusal, Sizes, Unsound, NoRegister, Mapped, Reach, Receiving, Found, Sending, Taking}
-use Rattle.demands.proofs.Judged.{Fit, fit}
 use Rattle.demands.proofs.Blocks.{next}
 
 -- ---- refusals
@@ -57,10 +58,10 @@ unfit h = record { done = omega arith; fault = omega arith; fabric = omega arith
 
 -- What holds of every outcome of the first two rows.
 gate-holds : {A : Type 0} (P : A → Type 0) (refuse : Refusal → A) (m : Machine) {rest : A}
-    → (Refuses m 13 → P (refuse Sizes)) → (Refuses m 14 → P (refuse Unsound)) → (Fit m → P rest) → P (gate refuse m rest)
+    → (Refuses m 13 → P (refuse Sizes)) → (Refuses m 14 → P (refuse Unsound)) → (Sound m → P rest) → P (gate refuse m rest)
 unfolding gate
 gate-holds P refuse m first second rest =
-    need-holds P (isSized m) (λ e. first (sizes e)) (λ z. need-holds P (isSound m) (λ e. second (unfit (unsound e))) (λ s. rest (fit m z s)))
+    need-holds P (isSized m) (λ e. first (sizes e)) (λ z. need-holds P (isSound m) (λ e. second (unfit (unsound e))) (λ s. rest (sound m z s)))
 
 -- ---- an unknown call, and a read
 
@@ -96,7 +97,7 @@ of-read m r = gate-holds (OfRead m) Reach.No m (λ e. e) (λ e. e) (λ f. of-map
 -- A packet that is taken: what it comes to, and that there is room for it.
 abbrev pub OfReceive : Machine → List ℕ → Receiving → Type 0
 OfReceive m packet (Receiving.No why) = Refuses m (refusalNumber why)
-OfReceive m packet (Receiving.ComesTo r) = Fit m × (r ≡ receipt m packet) × (hasRoomFor (m .saved) (m .receive) (packetOf packet) r ≡ true)
+OfReceive m packet (Receiving.ComesTo r) = Sound m × (r ≡ receipt m packet) × (hasRoomFor (m .saved) (m .receive) (packetOf packet) r ≡ true)
 
 pub of-receive : (m : Machine) (packet : List ℕ) → OfReceive m packet (judgeReceive m packet)
 unfolding judgeReceive
@@ -112,10 +113,10 @@ of-receive m packet =
 -- A descriptor that sends or waits is the one chosen.
 abbrev pub OfSend : Machine → Sending → Type 0
 OfSend m (Sending.No why) = Refuses m (refusalNumber why)
-OfSend m (Sending.Sends d) = Fit m × (nextSender (m .saved) (m .send) (m .receive) ≡ Found.At d)
+OfSend m (Sending.Sends d) = Sound m × (nextSender (m .saved) (m .send) (m .receive) ≡ Found.At d)
 OfSend m (Sending.Waits d) = nextSender (m .saved) (m .send) (m .receive) ≡ Found.At d
 
-found-sends : (m : Machine) (ready : Bool) → Fit m → (f : Found) → nextSender (m .saved) (m .send) (m .receive) ≡ f → OfSend m (sendingOf ready f)
+found-sends : (m : Machine) (ready : Bool) → Sound m → (f : Found) → nextSender (m .saved) (m .send) (m .receive) ≡ f → OfSend m (sendingOf ready f)
 unfolding sendingOf
 found-sends m ready g Found.Nothing e = plain (omega arith)
 found-sends m ready g (Found.At d) e = pick-holds (OfSend m) ready (g, e) e
@@ -135,7 +136,7 @@ of-send m ready room =
 abbrev pub OfTake : Machine → ℕ → Taking → Type 0
 OfTake m l (Taking.No why) = Refuses m (refusalNumber why)
 OfTake m l (Taking.Takes i b n) =
-    Fit m
+    Sound m
     × (l < lists)
     × (m .saved .nbqr .length < 256)
     × (b .0 ≢ 0)

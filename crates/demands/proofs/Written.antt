@@ -19,9 +19,10 @@ use Rattle.rules.specs.Writes.{descriptorWordFixed, starts, stops, judgeSendWor
 use Rattle.rules.specs.Sound.{isSized, isSound}
 use Rattle.rules.specs.Replies.{refusalNumber}
 use Rattle.rules.specs.Calls.{isReset, judgeWrite}
+use Rattle.laws.specs.Sound.{Block}
+use Rattle.laws.proofs.Sound.{is-block, tests}
 use Rattle.demands.specs.Types.{ListIndex, Register, Mapped, ReceivePart, Number, SendStore, ReceiveStore, Writing}
-use Rattle.demands.proofs.Judged.{tests}
-use Rattle.demands.proofs.Blocks.{Block, is-block, next}
+use Rattle.demands.proofs.Blocks.{next}
 use Rattle.demands.proofs.Verdicts.{unsound, Refuses, plain, sizes, unfit}
 
 -- A block address whose next word is 0.

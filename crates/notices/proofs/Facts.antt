@@ -19,14 +19,14 @@ use Rattle.rules.specs.declared.Queue.{Queue}
 use Rattle.rules.specs.declared.Refusal.{Refusal}
 use Rattle.rules.specs.declared.Saved.{Saved}
 use Rattle.rules.specs.declared.Taking.{Taking}
-use Rattle.rules.specs.Memory.{Machine, receiveSize, lists, list, listsFrom, aqrFrom, block}
+use Rattle.rules.specs.Memory.{Machine, receiveSize, lists, list, listsFrom, aqrFrom, block, isBlockOrNone}
 use Rattle.rules.specs.Queues.{hasRoom, entryWord}
 use Rattle.rules.specs.Board.{Board}
 use Rattle.rules.specs.Notices.{headOf, tokenOf, enqueues, placeOf, canPost, canPostAll, pushAqr}
 use Rattle.rules.specs.Calls.{judgeTake}
-use Rattle.sound.specs.Facts.{Ring, Sound}
-use Rattle.sound.proofs.Facts.{set-block}
-use Rattle.sound.proofs.Passing.{past-gate}
+use Rattle.laws.specs.Sound.{Ring}
+use Rattle.laws.proofs.Sound.{set-block}
+use Rattle.laws.proofs.Gate.{past-gate}
 use Rattle.notices.specs.declared.Step.{Step}
 use Rattle.notices.specs.Steps.{Pushable, Does, Postable, Listed, PostableAll, TakeableTo}
 
@@ -44,26 +44,28 @@ on-list {l} low = record { low = λ k m e. let same : l ≡ k = cc in rw (← sa
 pub on-none : Listed Posting.Silent
 on-none = record { low = λ l m e. let z : _≡_ {A = ℕ} 0 1 = cc in absurd (omega arith) }
 
-module _ (s : Saved) (send receive : List ℕ) (dataLength n : ℕ) (sound : Sound s send receive dataLength n) where
-  -- A list of a sound machine that can be posted to.
-  pub postable : (l : ListIndex) → l .0 < lists → canPost s receive l ≡ true → Postable s receive n l
+-- Both queues of a posting lie in their words.
+module _ (s : Saved) (receive : List ℕ) (n : ℕ) (size : length receive ≡ receiveSize) (nqr : Ring (s .nqr)) (nbqr : Ring (s .nbqr)) where
+  -- A list that can be posted to, where its head is a block or none.
+  pub postable : (l : ListIndex) → l .0 < lists → isBlockOrNone n (headOf receive l) ≡ true → canPost s receive l ≡ true → Postable s receive n l
   unfolding canPost
-  postable l low h =
+  postable l low head h =
       let set : not (eqb (headOf receive l) 0) ≡ true = search (and-left, and-right) depth 20 in
       let room : (not (enqueues (tokenOf receive l)) || hasRoom (s .nqr)) ≡ true = search (and-left, and-right) depth 20 in
       record {
-        size = sound .sized .receive;
+        size = size;
         low = low;
-        head = set-block n (headOf receive l) (sound .heads l low) (not-true _ set) .inside;
-        nbqr = sound .nbqr .place;
-        nqr = sound .nqr .place;
+        head = set-block n (headOf receive l) head (not-true _ set) .inside;
+        nbqr = nbqr .place;
+        nqr = nqr .place;
         room = λ e. ltb-true _ _ (or-second (not (enqueues (tokenOf receive l))) (hasRoom (s .nqr)) room (not-no e));
       }
 
-  -- What a call has to post.
-  pub postable-all : (p : Posting) → Listed p → canPostAll s receive p ≡ true → PostableAll s receive n p
+  -- What a call has to post, where every head is.
+  pub postable-all : (p : Posting) → ((l : ListIndex) → l .0 < lists → isBlockOrNone n (headOf receive l) ≡ true) → Listed p → canPostAll s receive p ≡ true
+      → PostableAll s receive n p
   unfolding canPostAll
-  postable-all p listed h = record { on = λ l m e. postable l (listed .low l m e) (rw e at h) }
+  postable-all p heads listed h = record { on = λ l m e. let low : l .0 < lists = listed .low l m e in postable l low (heads l low) (rw e at h) }
 
 -- A refusal is no take.
 takes-not : {why : Refusal} {l : ListIndex} {b next : BlockAddress} → Taking.No why ≡ Taking.Takes l b next → ⊥

@@ -28,7 +28,7 @@ use Rattle.rules.specs.Board.{Board}
 use Rattle.rules.specs.Notices.{blockWords, enqueues, token, placeOf, emptyInterrupt, fillHead, pushNqr, enqueueToken, post, postAll, takeBlock}
 use Rattle.rules.specs.Calls.{wordsOf, actTake}
 use Rattle.sound.specs.Gated.{Gated}
-use Rattle.sound.proofs.Facts.{set-block}
+use Rattle.laws.proofs.Sound.{set-block}
 use Rattle.sound.proofs.Passing.{gated-sound}
 use Rattle.notices.specs.declared.Step.{Step}
 use Rattle.notices.specs.Steps.{Pushable, Returns, Does, Posts, Enqueues, Postable, Takes, Acts}

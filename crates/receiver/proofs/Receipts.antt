@@ -26,7 +26,7 @@ use Rattle.rules.specs.Receipt.{completes, receiptOf, receiptPosting, needsAqr,
 use Rattle.rules.specs.Calls.{judgeReceive}
 use Rattle.packet.specs.Packet.{Sized}
 use Rattle.packet.proofs.Reading.{sized}
-use Rattle.sound.proofs.Passing.{past-gate}
+use Rattle.laws.proofs.Gate.{past-gate}
 use Rattle.notices.specs.Steps.{Listed}
 use Rattle.notices.proofs.Facts.{pushable, on-list, on-none, postable-all}
 use Rattle.receiver.specs.Acting.{Usable, Known, Receivable}
@@ -207,6 +207,6 @@ receivable m packet {r} h =
       sized = j .sized;
       known = a .known;
       fits = λ i e. omega (arith, payload-same packet, buffer-inside (slotAt receive i) (length (m .bytes)) (t .lands i e .ok), t .fits i e);
-      posting = postable-all s (m .send) receive _ _ sound (receiptPosting receive p r) (a .listed) (and-left (canPostAll s receive (receiptPosting receive p r)) _ free);
+      posting = postable-all s receive _ (j .size) (sound .nqr) (sound .nbqr) (receiptPosting receive p r) (sound .heads) (a .listed) (and-left (canPostAll s receive (receiptPosting receive p r)) _ free);
       aqr = λ e. pushable (s .aqr) receive (sound .aqr) (j .size) (or-second (not (needsAqr receive p r)) _ (and-right (canPostAll s receive (receiptPosting receive p r)) _ free) (not-no e));
     }

@@ -24,8 +24,8 @@ use Rattle.rules.specs.Registers.{single, mapped, decode, reach}
 use Rattle.rules.specs.Sound.{isSized, isSound}
 use Rattle.rules.specs.Writes.{slotWordFixed, starts, judgeSendWord, judgeReceiveWord, judgeRegister, judgeReached}
 use Rattle.rules.specs.Calls.{isReset, judgeWrite}
-use Rattle.sound.specs.Facts.{Ring, Sized, Sound}
-use Rattle.sound.proofs.Facts.{sized, sound}
+use Rattle.laws.specs.Sound.{Ring, Sized, Sound}
+use Rattle.laws.proofs.Sound.{sized, sound}
 use Rattle.notices.proofs.Facts.{pushable}
 use Rattle.registers.specs.Writing.{Rams, InSend, PlainWord, InReceive, Asks, Writable}
 use Rattle.registers.proofs.Mapping.{in-send}
@@ -127,8 +127,7 @@ module _ (m : Machine) (v : ℕ) (rams : Rams (length (m .send)) (length (m .rec
       let zero : a ≡ 0 = eqb-true a 0 (and-left _ _ e) in
       rw (← pcsr0-reached a zero) (pcsr0-judged (m .saved) (m .send) (m .receive) rams (m .notices) v)
   on-judged a false e sizes h =
-      let known : Sound (m .saved) (m .send) (m .receive) (length (m .bytes)) (length (m .notices)) =
-      sound (m .saved) (m .send) (m .receive) _ _ sizes h in
+      let known : Sound m = sound m sizes h in
       reached-judged (known .nbqr) (reach (m .saved) (decode a)) (in-send (m .saved) (known .ranges) a)
 
 -- The whole judgement.

@@ -32,8 +32,8 @@ use Rattle.rules.specs.Writes.{descriptorWordFixed, slotWordFixed, starts, stop
 use Rattle.rules.specs.Registers.{decode, reach}
 use Rattle.rules.specs.Sound.{soundOk}
 use Rattle.rules.specs.Calls.{isReset, judgeWrite}
-use Rattle.sound.specs.Facts.{Sized}
-use Rattle.sound.proofs.Facts.{is-block, sized}
+use Rattle.laws.specs.Sound.{Sized}
+use Rattle.laws.proofs.Sound.{is-block, sized}
 use Rattle.registers.specs.Writing.{Rams, Judges}
 
 -- Two different parts are not the same.

@@ -13,7 +13,7 @@ use Rattle.rules.specs.declared.Saved.{Saved}
 use Rattle.rules.specs.Registers.{single, between, mapped, decode, pointerOn, reach, stepped}
 use Rattle.rules.specs.Memory.{sendSize, receiveSize}
 use Rattle.rules.specs.Saved.{withPointers}
-use Rattle.sound.specs.Facts.{Ranges}
+use Rattle.laws.specs.Sound.{Ranges}
 
 -- ---- the ranges
 

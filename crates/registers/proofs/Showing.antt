@@ -20,8 +20,8 @@ use Rattle.rules.specs.Registers.{decode, reach, stepped, pcsr1, shows, shownIt
 use Rattle.rules.specs.Slots.{slotAt}
 use Rattle.rules.specs.Calls.{judgeRead, readDone, actRead}
 use Rattle.replies.specs.Refusing.{Refuses}
-use Rattle.sound.specs.Facts.{Sound}
-use Rattle.sound.proofs.Passing.{past-gate}
+use Rattle.laws.specs.Sound.{Sound}
+use Rattle.laws.proofs.Gate.{past-gate}
 use Rattle.registers.specs.Reading.{Showable, InsideReceive, Readable, SlotShows, Answers, Reads}
 use Rattle.registers.proofs.Mapping.{in-send, in-receive}
 
@@ -113,7 +113,7 @@ refuses (Reach.InReceive i) = false
 
 -- What is reached is reached past the gate.
 past : (m : Machine) (r : Mapped) (v : Reach) → refuses v ≡ false → judgeRead m r ≡ v
-    → Sound (m .saved) (m .send) (m .receive) (length (m .bytes)) (length (m .notices)) × (reach (m .saved) r ≡ v)
+    → Sound m × (reach (m .saved) r ≡ v)
 unfolding judgeRead
 past m r v n h = past-gate Reach.No m _ (λ why e. true≢false (ap refuses e ∙ n)) h
 

@@ -16,13 +16,15 @@ use Rattle.rules.specs.declared.Saved.{Saved}
 use Rattle.rules.specs.declared.Sending.{Sending}
 use Rattle.rules.specs.declared.Verdict.{Verdict}
 use Rattle.rules.specs.Words.{isControlPkt, isDirectIo, notifies, noteIndex}
-use Rattle.rules.specs.Memory.{Machine, dataMost, directTo, lists, descriptors, descriptor}
+use Rattle.rules.specs.Memory.{Machine, machine, dataMost, directTo, lists, descriptors, descriptor}
 use Rattle.rules.specs.Packet.{packetMost}
 use Rattle.rules.specs.Sending.{descriptorAt, isActive, nextPayload, isLast, sendPosting, isReady, firstFrom, nextSender}
 use Rattle.rules.specs.Calls.{sendingOf, judgeSend}
-use Rattle.sound.specs.Facts.{Going, Sound}
+use Rattle.laws.specs.Sound.{Going, theDescriptor, Sound}
+use Rattle.laws.proofs.Sound.{going}
 use Rattle.sound.specs.Gated.{Gated}
-use Rattle.sound.proofs.Passing.{past-gate, gated-sound}
+use Rattle.laws.proofs.Gate.{past-gate}
+use Rattle.sound.proofs.Passing.{gated-sound}
 use Rattle.notices.specs.Steps.{Listed}
 use Rattle.notices.proofs.Facts.{on-list, on-none, postable-all}
 use Rattle.sender.specs.Steps.{Choosable, SendableFrom, Sendable}
@@ -35,17 +37,23 @@ listed : (d : Descriptor) → (notifies (d .control1) ≡ true → noteIndex (d 
 unfolding sendPosting
 listed d note = pick-by Listed (isLast d && notifies (d .control1)) (λ e. on-list (note (and-right (isLast d) _ e))) (λ e. on-none)
 
-module _ (s : Saved) (send receive : List ℕ) (dataLength n : ℕ) (sound : Sound s send receive dataLength n) where
-  -- In a sound machine what an active descriptor posts is on a list.
-  active-listed : (d : DescriptorIndex) → d .0 < descriptors → isActive (descriptorAt send d) ≡ true → Listed (sendPosting (descriptorAt send d))
-  active-listed d low a = listed (descriptorAt send d) (sound .active d low a .note)
+-- What an active descriptor that keeps the go rule posts is on a list.
+module _ (m : Machine) (sound : Sound m) where
+  active-going : (i : DescriptorIndex) → i .0 < descriptors → isActive (theDescriptor m i) ≡ true
+      → Going (theDescriptor m i) (theDescriptor m i .control1) (theDescriptor m i .bytestogo) (length (m .bytes))
+  active-going i low a = going _ _ _ _ (sound .active i low a)
 
   -- A sound machine's sender can be chosen.
-  choosable : Choosable s send receive
+  choosable : Choosable (m .saved) (m .send) (m .receive)
   choosable =
       record {
         last = sound .ranges .lastsender;
-        each = λ i low. record { low = low; words = sound .sized .send; lists = sound .sized .receive; listed = active-listed i low };
+        each = λ i low. record {
+          low = low;
+          words = sound .sized .send;
+          lists = sound .sized .receive;
+          listed = λ a. listed (theDescriptor m i) (active-going i low a .note);
+        };
       }
 
 -- What the judge of a send reads, once the gate said go.
@@ -55,7 +63,7 @@ module _ (s : Saved) (send receive bytes notices : List ℕ) {v : Verdict} (told
   active-asks = gated-sound s send receive bytes notices told go .sized .send
 
   pub choose-asks : Choosable s send receive
-  choose-asks = choosable s send receive _ _ (gated-sound s send receive bytes notices told go)
+  choose-asks = choosable (machine s send receive bytes notices) (gated-sound s send receive bytes notices told go)
 
 -- ---- the payload
 
@@ -122,7 +130,7 @@ module _ (m : Machine) (ready : Bool) (room : ℕ) (i : DescriptorIndex) {v : Se
       omega arith
 
   -- The machine is sound, the room long enough, and the descriptor the first that is ready.
-  chosen : Sound (m .saved) (m .send) (m .receive) (length (m .bytes)) (length (m .notices)) × (packetMost ≤ room) × (i .0 < descriptors)
+  chosen : Sound m × (packetMost ≤ room) × (i .0 < descriptors)
       × (isReady (m .saved) (m .receive) (descriptorAt (m .send) i) ≡ true)
   unfolding judgeSend nextSender
   chosen =
@@ -142,7 +150,7 @@ module _ (m : Machine) (ready : Bool) (room : ℕ) (i : DescriptorIndex) {v : Se
       let sound = chosen .0 in
       let low = chosen .2 in
       let active : isActive d ≡ true = and-left (isActive d) _ (chosen .3) in
-      let going = sound .active i low active in
+      let rule = active-going m sound i low active in
       let n : ℕ = length (m .bytes) in
       record {
         packet = record {
@@ -151,14 +159,13 @@ module _ (m : Machine) (ready : Bool) (room : ℕ) (i : DescriptorIndex) {v : Se
           forms = record {
             own = sound .ranges .node;
             roomy = chosen .1;
-            bytes = λ some e. in-bytes d n going some e;
-            direct = λ some e. omega (arith, in-direct d n going some e, sound .sized .send);
+            bytes = λ some e. in-bytes d n rule some e;
+            direct = λ some e. omega (arith, in-direct d n rule some e, sound .sized .send);
           };
-          moves = record { address = λ some. rises d n going some (sound .sized .bytes) };
+          moves = record { address = λ some. rises d n rule some (sound .sized .bytes) };
         };
         posts =
-            postable-all (m .saved) (m .send) (m .receive) _ _ sound (sendPosting d)
-            (active-listed (m .saved) (m .send) (m .receive) _ _ sound i low active)
+            postable-all (m .saved) (m .receive) _ (sound .sized .receive) (sound .nqr) (sound .nbqr) (sendPosting d) (sound .heads) (listed d (rule .note))
             (and-right (isActive d) _ (chosen .3));
       }
 

@@ -17,7 +17,7 @@ ghost use mathlib.Core.Path.{_≡_};
 ghost use lib.ListN.{length};
 ghost use Rattle.rules.specs.Memory.{sizesOk};
 ghost use Rattle.rules.specs.Sound.{soundOk};
-ghost use Rattle.sound.specs.Facts.{Sized};
+ghost use Rattle.laws.specs.Sound.{Sized};
 ghost use Rattle.sound.specs.Gated.{Gated};
 
 // Each memory has its size, by the four lengths.

@@ -10,7 +10,7 @@ ghost use Rattle.rules.specs.Memory.{headWord, placeWord, isBlock, isBlockOrNon
 ghost use Rattle.rules.specs.Notices.{headOf, placeOf};
 ghost use Rattle.rules.specs.Queues.{entryWord};
 ghost use Rattle.rules.specs.Sound.{headsOk, placesOk, waitingOk};
-ghost use Rattle.sound.specs.Facts.{Ring};
+ghost use Rattle.laws.specs.Sound.{Ring};
 
 // A block's address, in a notice memory of n words.
 pub fn is_block(n: usize, a: u32) -> bool

@@ -23,10 +23,11 @@ use Rattle.rules.specs.Packet.{headerBytes, metadataBytes, checkWord, bodyCheck
 use Rattle.rules.specs.Sending.{descriptorAt, isActive, isReady, addressOk, messageSizeOk, goRule, nextPayload, nextBytes, nextHeader, nextPacket}
 use Rattle.rules.specs.Sound.{isSized, isSound}
 use Rattle.rules.specs.Calls.{sends, perform, judgeSend, packetFrom, actSend, sendCall}
+use Rattle.laws.specs.Sound.{Sound}
+use Rattle.laws.proofs.Sound.{tests, sound}
 use Rattle.demands.specs.Types.{DescriptorIndex, Metadata, Descriptor, Header, Sending}
 use Rattle.demands.specs.Fields.{Below, Fields, word0, word1, word2, word3, layout, Within, Allowed, sentFields}
 use Rattle.demands.specs.Demands.{ReadAs, Sent}
-use Rattle.demands.proofs.Judged.{tests, Fit, fit}
 use Rattle.demands.proofs.Choices.{found-ready}
 use Rattle.demands.proofs.Verdicts.{OfSend, of-send}
 use Rattle.demands.proofs.Packed.{Made, laid-formed, plain-length, control0-made, none-fit}
@@ -185,9 +186,9 @@ module _ (m : Machine) (words : Below (2 ^ 32) (m .send)) (inside : Below 256 (m
 formed-read : (m : Machine) (i : DescriptorIndex) → Below (2 ^ 32) (m .send) → Below 256 (m .bytes) → isSized m ≡ true → isSound m ≡ true
     → i .0 < descriptors → isActive (descriptorAt (m .send) i) ≡ true → ReadAs (sentFields m (descriptorAt (m .send) i)) (packetFrom m i)
 unfolding d f
-formed-read m i words inside sized sound lt active =
-    let t : Fit m = fit m sized sound in
-    read m words inside i (t .send) (t .node) (t .goes (i .0) lt active)
+formed-read m i words inside sized ok lt active =
+    let t : Sound m = sound m sized ok in
+    read m words inside i (t .sized .send) (t .ranges .node) (t .active i lt active)
 
 -- By a send call's verdict: the packet stands at the start of the room.
 sent-by : (m : Machine) (room : List ℕ) (v : Sending) → Below (2 ^ 32) (m .send) → Below 256 (m .bytes) → OfSend m v
@@ -196,14 +197,14 @@ unfolding d f actSend over isReady
 sent-by m room (Sending.No why) words inside h z = absurd (h .done z)
 sent-by m room (Sending.Waits i) words inside h z = absurd (omega arith)
 sent-by m room (Sending.Sends i) words inside h z =
-    let t : Fit m = h .0 in
+    let t : Sound m = h .0 in
     let r = found-ready (m .saved) (m .send) (m .receive) (h .1) in
     let p : List ℕ = packetFrom m i in
     let e : take (length p) (p ++ drop (length p) room) ≡ p = take-append-seam p (drop (length p) room) in
     record {
       descriptor = i;
       chosen = h .1;
-      packet = rw e (read m words inside i (t .send) (t .node) (t .goes (i .0) (r .1) (and-left (isActive (descriptorAt (m .send) i)) _ (r .0))));
+      packet = rw e (read m words inside i (t .sized .send) (t .ranges .node) (t .active i (r .1) (and-left (isActive (descriptorAt (m .send) i)) _ (r .0))));
     }
 
 -- By the call.

@@ -1,0 +1,3 @@
+-- What each verdict says, and what is known of a sound machine, as records. Assumes nothing.
+pub mod Types
+pub mod Sound
