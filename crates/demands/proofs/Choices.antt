@@ -1,28 +1,20 @@
--- What the table of receipt and the choice of a descriptor say of what they name. Assumes nothing.
-use Prim.Native.Nat.{ℕ, zero, suc, _+_, _%_, _<_}
-use mathlib.Core.Path.{_≡_, refl, sym, ap, _∙_}
-use mathlib.Core.Bool.{Bool, true, false, not, _&&_}
+-- What the table of receipt says of the slot that it names. Assumes nothing.
+use Prim.Native.Nat.{ℕ, _<_}
+use mathlib.Core.Path.{_≡_}
+use mathlib.Core.Bool.{true, not, _&&_}
 use mathlib.Core.List.{List}
 use native.Mathlib.Omega.{arith}
 use lib.Dec.{ltb}
 use borrow.Author.Tests.{ltb-true}
-use Rattle.ground.specs.Choice.{pick}
 use Rattle.ground.proofs.Choice.{pick-by, need-holds}
 use Rattle.ground.proofs.Tests.{and-right, or-second, not-no}
-use Rattle.rules.specs.Words.{noteIndex, notifies}
-use Rattle.rules.specs.Memory.{descriptor, descriptors, lists}
+use Rattle.rules.specs.Memory.{lists}
 use Rattle.rules.specs.Slots.{slotAt, slotOk, slotNotifies, slotNoteIndex, ackNoteIndex}
 use Rattle.rules.specs.Receipt.{receiptOf, completes, receiptPosting}
-use Rattle.rules.specs.Sending.{goRule, isLast, sendPosting, isReady, firstFrom, nextSender, descriptorAt}
+use Rattle.laws.specs.Postings.{Listed}
 use Rattle.laws.proofs.Sound.{tests}
-use Rattle.demands.specs.Types.{Saved, DescriptorIndex, Descriptor, Slot, Packet, Posting, Receipt, Found}
-
--- The list that is posted on is one that there is.
-abbrev pub Listed : Posting → Type 0
-Listed Posting.Silent = Unit {0}
-Listed (Posting.On l n) = l .0 < lists
-
--- ---- receipt
+use Rattle.laws.proofs.Postings.{on-list, on-none}
+use Rattle.demands.specs.Types.{Saved, Slot, Packet, Receipt}
 
 -- A slot that is named is below the count, and valid.
 abbrev pub OfReceipt : Saved → List ℕ → ℕ → Receipt → Type 0
@@ -61,42 +53,9 @@ notes-listed v n e h =
 -- So what a receipt posts is on a list that there is.
 pub receipt-listed : (s : Saved) (receive : List ℕ) (n : ℕ) (p : Packet) (r : Receipt) → OfReceipt s receive n r → Listed (receiptPosting receive p r)
 unfolding receiptPosting
-receipt-listed s receive n p (Receipt.Fails status) h = omega arith
-receipt-listed s receive n p (Receipt.Acks i) h = acks-listed (slotAt receive i) n (h .1)
+receipt-listed s receive n p (Receipt.Fails status) h = on-list (omega arith)
+receipt-listed s receive n p (Receipt.Acks i) h = on-list (acks-listed (slotAt receive i) n (h .1))
 receipt-listed s receive n p (Receipt.Lands i) h =
     let v : Slot = slotAt receive i in
     pick-by Listed (completes p v && slotNotifies (v .noteandflags))
-    (λ e. notes-listed v n (h .1) (and-right (completes p v) (slotNotifies (v .noteandflags)) e)) (λ e. tt)
-
--- ---- send
-
--- Who is found passes the test, and is a descriptor.
-found-first : (test : DescriptorIndex → Bool) (last k n : ℕ) {d : DescriptorIndex} → firstFrom test last k n ≡ Found.At d → (test d ≡ true) × (d .0 < descriptors)
-unfolding firstFrom pick
-found-first test last k zero e = let z : _≡_ {A = ℕ} 0 1 = cc in absurd (omega arith)
-found-first test last k (suc n) {d} e = go (test c) refl e (found-first test last (k + 1) n)
-  where
-    c : DescriptorIndex
-    c = descriptor ((last + 1 + k) % 4)
-
-    go : (t : Bool) → test c ≡ t → pick t (Found.At c) (firstFrom test last (k + 1) n) ≡ Found.At d
-        → (firstFrom test last (k + 1) n ≡ Found.At d → (test d ≡ true) × (d .0 < descriptors)) → (test d ≡ true) × (d .0 < descriptors)
-    go true q h rest =
-        let x : c ≡ d = cc in
-        (sym (ap test x) ∙ q, omega (arith, ap (λ y. y .0) x))
-    go false q h rest = rest h
-
--- The next sender is ready.
-pub found-ready : (s : Saved) (send receive : List ℕ) {d : DescriptorIndex} → nextSender s send receive ≡ Found.At d
-    → (isReady s receive (descriptorAt send d) ≡ true) × (d .0 < descriptors)
-unfolding nextSender
-found-ready s send receive e = found-first (λ d. isReady s receive (descriptorAt send d)) (s .lastsender) 0 descriptors e
-
--- What a descriptor that keeps the go rule posts is on a list that there is.
-pub send-listed : (n : ℕ) (d : Descriptor) → goRule d (d .control1) (d .bytestogo) n ≡ true → Listed (sendPosting d)
-unfolding sendPosting goRule
-send-listed n d rule =
-    pick-by Listed (isLast d && notifies (d .control1))
-    (λ e. ltb-true (noteIndex (d .address1)) lists
-    (or-second (not (notifies (d .control1))) (ltb (noteIndex (d .address1)) lists) (search tests depth 20) (not-no (and-right (isLast d) (notifies (d .control1)) e))))
-    (λ e. tt)
+    (λ e. on-list (notes-listed v n (h .1) (and-right (completes p v) (slotNotifies (v .noteandflags)) e))) (λ e. on-none)

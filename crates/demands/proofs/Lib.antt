@@ -3,8 +3,6 @@
 pub mod Access
 pub mod Reset
 pub mod Choices
-pub mod Verdicts
-pub mod Written
 pub mod Answers
 -- ---- packets
 pub mod Packets

@@ -17,10 +17,10 @@ use Rattle.rules.specs.Board.{Board}
 use Rattle.rules.specs.Notices.{tokenOf, enqueues, token, bitAfter, interrupting, pushAqr, pushNqr, pushNbqr, canPost, canPostAll, fillHead, enqueueToken, post, postAll}
 use Rattle.rules.specs.Registers.{pointerOk, pointerOn, stepped, shownItself}
 use Rattle.rules.specs.Writes.{bitsCleared, numberSet}
+use Rattle.laws.specs.Writing.{OfNumber}
 use Rattle.laws.proofs.Sound.{tests}
 use Rattle.demands.specs.Types.{Queue, Saved, BlockAddress, Posting, Number, Mapped, Register}
 use Rattle.demands.proofs.Access.{after-step, after-shown}
-use Rattle.demands.proofs.Written.{OfNumber}
 
 -- PCSR0, the interrupt bits, the slot count, both pointers, the last sender.
 abbrev pub Registers : Saved → Type 0

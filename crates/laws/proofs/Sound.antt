@@ -1,8 +1,9 @@
 -- The tests of sizes and soundness, as facts. Assumes nothing.
 use mathlib.Core.Path.{_≡_, refl}
+use mathlib.Core.Logic.{_≢_}
 use mathlib.Core.Bool.{Bool, true, false, not, _&&_, _||_}
 use Prim.Native.Nat.{ℕ, _+_, _%_, _≤_}
-use borrow.Author.Tests.{ltb-true, leb-true, eqb-true}
+use borrow.Author.Tests.{ltb-true, leb-true, eqb-true, ne-eqb}
 use lib.Dec.{eqb, ltb, leb}
 use lib.ListN.{length}
 use Rattle.ground.proofs.All.{all-at}
@@ -36,8 +37,8 @@ pub is-block : (n a : ℕ) → isBlock n a ≡ true → Block n a
 is-block n a h = search tests depth 20
 
 -- A head or a place that is set is a block.
-pub set-block : (n a : ℕ) → isBlockOrNone n a ≡ true → eqb a 0 ≡ false → Block n a
-set-block n a h e = is-block n a (or-second (eqb a 0) (isBlock n a) h e)
+pub set-block : (n a : ℕ) → isBlockOrNone n a ≡ true → a ≢ 0 → Block n a
+set-block n a h e = is-block n a (or-second (eqb a 0) (isBlock n a) h (ne-eqb a 0 e))
 
 -- A message's bytes, in data memory or in DIO.
 module _ {direct : Bool} (address size dataLength : ℕ) (h : addressOk direct address size dataLength ≡ true) where

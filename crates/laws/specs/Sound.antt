@@ -2,7 +2,7 @@
 use mathlib.Core.Path.{_≡_}
 use mathlib.Core.Bool.{true, false}
 use Prim.Native.Nat.{ℕ, _+_, _*_, _/_, _%_, _<_, _≤_}
-use lib.ListN.{length, getD}
+use lib.ListN.{length}
 use Rattle.rules.specs.Words.{most24, noteIndex, offset, isDirectIo, isControlPkt, notifies}
 use Rattle.rules.specs.Memory.{Machine, sendSize, receiveSize, dataMost, noticesMost, blockSize, queueSize, descriptors, slotsMost, lists}
 use Rattle.rules.specs.Memory.{directFrom, directTo, isBlockOrNone}

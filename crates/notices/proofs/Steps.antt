@@ -6,7 +6,6 @@ use mathlib.Core.List.{List}
 use Prim.Native.Nat.{ℕ, _+_, _-_, _<_, _≤_}
 use native.Mathlib.Nat.{add-zero}
 use native.Mathlib.Omega.{arith}
-use borrow.Author.Tests.{ne-eqb}
 use lib.ListN.{length, getD, set, take, drop, length-set}
 use lib.Seq.{sets}
 use Rattle.ground.specs.Lists.{over}
@@ -128,7 +127,7 @@ module _ (s : Saved) (send receive bytes notices : List ℕ) {v : Verdict} (told
   pub next-asks : (l : ListIndex) (place : ℕ) → l .0 < 64 → place ≡ placeOf receive l → place ≢ 0 → blockFirst (block place) + 8 ≤ length notices
   next-asks l place low e filled =
       let sound = gated-sound s send receive bytes notices told go in
-      set-block (length notices) place (rw e (sound .places l low)) (ne-eqb _ _ filled) .inside
+      set-block (length notices) place (rw e (sound .places l low)) filled .inside
 
 -- The place, the block's next, and the block on NBQR.
 pub taken : (l : ListIndex) (b next : BlockAddress) (s s₂ : Saved) (receive receive₂ notices : List ℕ) (place first : ℕ) → place ≡ placeWord l

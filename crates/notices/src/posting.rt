@@ -16,7 +16,8 @@ ghost use Prim.Native.Nat.{_+_, _≤_, _<_};
 ghost use lib.ListN.{length};
 ghost use Rattle.rules.specs.Notices.{canPost, canPostAll, pushAqr, pushNqr, emptyInterrupt, fillHead, enqueueToken, postAll};
 ghost use Rattle.rules.specs.Notices as rule;
-ghost use Rattle.notices.specs.Steps.{Pushable, Pushes, Does, Posts, Enqueues, Postable, Listed, PostableAll};
+ghost use Rattle.laws.specs.Postings.{Listed};
+ghost use Rattle.notices.specs.Steps.{Pushable, Pushes, Does, Posts, Enqueues, Postable, PostableAll};
 
 // Whether a list can be posted to: a set head, a waiting block, and room for the token where it is pushed.
 fn can_post(s: Saved, receive: &[u32], l: ListIndex) -> bool

@@ -27,8 +27,9 @@ use Rattle.rules.specs.Calls.{judgeReceive}
 use Rattle.packet.specs.Packet.{Sized}
 use Rattle.packet.proofs.Reading.{sized}
 use Rattle.laws.proofs.Gate.{past-gate}
-use Rattle.notices.specs.Steps.{Listed}
-use Rattle.notices.proofs.Facts.{pushable, on-list, on-none, postable-all}
+use Rattle.laws.specs.Postings.{Listed}
+use Rattle.laws.proofs.Postings.{on-list, on-none}
+use Rattle.notices.proofs.Facts.{pushable, postable-all}
 use Rattle.receiver.specs.Acting.{Usable, Known, Receivable}
 use Rattle.receiver.specs.Judging.{Judgeable, Valid, Told, Answerable}
 

@@ -22,7 +22,8 @@ use Rattle.rules.specs.Memory.{slotFirst, slotWord, headWord, placeWord}
 use Rattle.rules.specs.Slots.{slotAt, slotWords, storeSlot}
 use Rattle.rules.specs.Sending.{descriptorAt, storeDescriptor, started}
 use Rattle.rules.specs.Writes.{numberSet, sendStored, receiveStored}
-use Rattle.registers.specs.Writing.{InSend, InReceive, PlainWord, HasWord, HasWord2}
+use Rattle.laws.specs.Writing.{PlainWord}
+use Rattle.registers.specs.Writing.{InSend, InReceive, HasWord, HasWord2}
 
 -- ---- slots
 

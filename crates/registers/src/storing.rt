@@ -22,7 +22,8 @@ ghost use lib.ListN.{length};
 ghost use Rattle.ground.specs.Choice.{pick};
 ghost use Rattle.rules.specs.Sending as sending;
 ghost use Rattle.rules.specs.Writes.{bitsCleared, numberSet, sendStored, receiveStored};
-ghost use Rattle.registers.specs.Writing.{InSend, InReceive, PlainWord, HasWord, HasWord2};
+ghost use Rattle.laws.specs.Writing.{PlainWord};
+ghost use Rattle.registers.specs.Writing.{InSend, InReceive, HasWord, HasWord2};
 
 // ---- the saved state
 
