@@ -1,6 +1,6 @@
 -- What a turn of the station makes of bytes that came, and what its turns write together. Assumes nothing.
 -- The C functions read and write promise nothing of bytes: which bytes came, and that the lines went out, no contract can say.
-use Prim.Native.Nat.{ℕ, _+_, _-_, _*_, _/_, _<_, _≤_}
+use Prim.Native.Nat.{ℕ, _+_, _-_, _*_, _/_, _^_, _<_, _≤_}
 use mathlib.Core.Path.{_≡_}
 use mathlib.Core.List.{List, [], _++_}
 use lib.Dec.{eqb}
@@ -78,9 +78,10 @@ abbrev pub opened : Held
 opened = record { machine = firstMachine; waits = [] }
 
 -- The memories have it, whatever the input's room holds.
-pub record Begun (saved send receive bytes notices : List ℕ) (kept : ℕ) : Type 0 where
+pub record Begun (saved send receive bytes notices : List ℕ) (kept count : ℕ) : Type 0 where
   pub opens : (input : List ℕ) → held saved send receive bytes notices input kept ≡ opened
   pub nothing : kept ≡ 0
+  pub none : count ≡ 0
 
 -- ---- a turn
 
@@ -124,6 +125,18 @@ written (r ▸ came) = written r ++ linesNow (after r) came
 abbrev pub Going : Reads → Type 0
 Going none = Unit {0}
 Going (r ▸ came) = Going r × (0 < length came)
+
+-- No input has so many bytes.
+abbrev pub countMost : ℕ
+countMost = 2 ^ 63
+
+-- What the turns left that read so many bytes, none of them at the end of the input. A machine and waiting bytes of other turns, or some that
+-- were dropped on the way, are not: the bytes that wait are the last of those read.
+pub record SoFar (h : Held) (count : ℕ) : Type 0 where
+  pub reads : Reads
+  pub going : Going reads
+  pub many : length (read reads) ≡ count
+  pub left : h ≡ after reads
 
 -- A turn made of what the turns before left, and of what came, just what it should; and so, whatever was read before, all that was written
 -- by now is what the turns write, and at the end of the input the station's lines of all that was read.
