@@ -3,7 +3,7 @@ use Prim.Native.Nat.{ℕ, _+_, _-_, _%_, _<_, _≤_}
 use mathlib.Core.Path.{_≡_, refl, sym, ap, _∙_}
 use mathlib.Core.List.{List, [], _++_, append-assoc, append-nil}
 use native.Mathlib.Omega.{arith}
-use lib.ListN.{length, length-append, take, drop, take-append-drop, drop-of-length-le}
+use lib.ListN.{length, length-append, length-drop, take, drop, take-append-drop, drop-of-length-le}
 use lib.Seq.{length-take-le, take-length}
 use Rattle.ground.specs.Lists.{part}
 use Rattle.ground.proofs.Lists.{length-part, part-add}
@@ -58,10 +58,22 @@ onward (r ▸ came) g later =
     ∙ ap (λ (l : List ℕ). written r ++ l) (whole-lines (after r) came (g .1) later)
     ∙ sym (append-assoc (written r) _ _)
 
+-- What waits is what the whole records leave of all that was read.
+many-wait : (r : Reads) → Going r → length (after r .waits) ≡ length (read r) % recordSize
+unfolding goneOn
+many-wait none g = refl
+many-wait (r ▸ came) g =
+    let hand : List ℕ = after r .waits ++ came in
+    let cut : length hand - length hand % recordSize ≡ answeredTo (length came) (length hand) = before-the-end _ _ (λ z. absurd (omega (arith, g .1, z))) in
+    let rest : length (drop (answeredTo (length came) (length hand)) hand) ≡ length hand - answeredTo (length came) (length hand) = length-drop _ hand in
+    let before : length (after r .waits) ≡ length (read r) % recordSize = many-wait r (g .0) in
+    omega (arith, rest, cut, before, length-append (after r .waits) came, length-append (read r) came)
+
 pub in-turns : InTurns
 in-turns =
     record {
       onward = onward;
+      waits = many-wait;
       whole = λ r g.
           ap (λ (l : List ℕ). written r ++ l) (last-lines (after r) ∙ ap (linesOf (after r .machine)) (sym (append-nil (after r .waits))))
           ∙ sym (onward r g [])

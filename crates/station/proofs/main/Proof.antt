@@ -55,7 +55,7 @@ main-spec =
     (λ c κs.
     let inv = c .before .before .before .before .before .before .before .before .before .before .before .before .before .before .loop .inv in
     let read = c .before .before .before .before .before .before .before .before .before .before .before .read-on in
-    ((sym (inv .0), (inv .5 ∙ sym (read .kept .0), inv .6, inv .7), inv .8, read .ensures .0), (search needs, after-read (still-waits _ _ _ (inv .8) (omega (arith, inv .5)) (omega (arith, inv .5, read .kept .0)) (read .ensures .1)) (inv .9))))
+    ((sym (inv .0), (inv .5 ∙ sym (read .kept .0), inv .6, inv .7), search needs, read .ensures .0), (search needs, after-read (still-waits _ _ _ (inv .8) (omega (arith, inv .5)) (omega (arith, inv .5, read .kept .0)) (read .ensures .1)) (inv .9))))
     (λ c. search needs)
     (λ c. sym (length-take-le _ _ (search needs)))
     (λ c κs. search needs)
