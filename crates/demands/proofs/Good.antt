@@ -1,5 +1,5 @@
 -- What keeps a machine sized and sound, call after call. Assumes nothing.
-use Prim.Native.Nat.{ℕ, _%_, _^_, _<_, _≤_}
+use Prim.Native.Nat.{ℕ, _%_, _^_}
 use mathlib.Core.Path.{_≡_, ap}
 use mathlib.Core.Logic.{inl, inr}
 use mathlib.Core.Bool.{Bool, true, _&&_, _||_}
@@ -14,7 +14,7 @@ use Rattle.rules.specs.Queues.{entryWord}
 use Rattle.rules.specs.Notices.{headOf, placeOf}
 use Rattle.rules.specs.Sending.{descriptorAt}
 use Rattle.rules.specs.Sound.{isSized, isSound, soundOk, registersOk, queuesOk, headsOk, placesOk, waitingOk, descriptorOk, descriptorsOk}
-use Rattle.laws.specs.Sound.{Block}
+use Rattle.laws.specs.Sound.{Ring, Block, Ranges}
 use Rattle.demands.specs.Types.{Queue, Saved}
 use Rattle.demands.specs.Places.{count}
 use Rattle.demands.proofs.Chain.{Tip}
@@ -23,7 +23,7 @@ use Rattle.demands.proofs.Sight.{below-at, view}
 use Rattle.demands.proofs.Boards.{heads, places}
 use Rattle.demands.proofs.Descriptors.{Rules}
 use Rattle.demands.proofs.Sane.{Sane}
-use Rattle.demands.proofs.Numbers.{Registers, Fits, Numbers}
+use Rattle.demands.proofs.Numbers.{Numbers}
 
 -- How many answers to receipts have this number, as a register counts them.
 abbrev pub tally : ℕ → List ℕ → ℕ
@@ -47,7 +47,7 @@ tip-test n a (inl e) = ap (λ (t : Bool). t || isBlock n a) (eq-eqb a 0 e)
 tip-test n a (inr k) = or-yes (eqb a 0) (block-test n a k)
 
 -- The registers.
-registers-ok : (s : Saved) → Registers s → registersOk s ≡ true
+registers-ok : (s : Saved) → Ranges s → registersOk s ≡ true
 unfolding registersOk
 registers-ok s g =
     and-both (and-both (and-both (and-both (and-both (and-both
@@ -62,7 +62,7 @@ good-sound m g =
     let s : Saved = m .saved in
     let r : List ℕ = m .receive in
     let f = g .numbers in
-    let queue : (q : Queue) → Fits q → (ltb (q .place) 256 && leb (q .length) 256) ≡ true =
+    let queue : (q : Queue) → Ring q → (ltb (q .place) 256 && leb (q .length) 256) ≡ true =
     λ q h. and-both (lt-ltb (q .place) 256 (h .place)) (le-leb (q .length) 256 (h .length)) in
     and-both (and-both (and-both (and-both (and-both
     (registers-ok s (f .registers))

@@ -5,44 +5,31 @@ use mathlib.Core.Bool.{Bool, true, not, _&&_}
 use mathlib.Core.List.{List}
 use native.Mathlib.Omega.{arith}
 use lib.ListN.{length, length-set}
-use borrow.Author.Tests.{eqb-true, eq-eqb, ltb-true, lt-ltb, leb-true}
+use borrow.Author.Tests.{eqb-true, eq-eqb, lt-ltb, leb-true}
 use Rattle.ground.specs.Field.{flag}
 use Rattle.ground.specs.Choice.{pick}
 use Rattle.ground.proofs.Choice.{pick-holds, pick-by}
-use Rattle.ground.proofs.Tests.{and-both, or-second, not-yes, not-no}
+use Rattle.ground.proofs.Tests.{and-both, not-yes}
 use Rattle.rules.specs.Memory.{sendSize, receiveSize}
 use Rattle.rules.specs.Saved.{resets, pcsr0Ok, withPcsr0, withBits, withSlots, withCounts, withPointers, withQueues, withLastSender, resetSaved}
-use Rattle.rules.specs.Queues.{isEmpty, hasRoom, pushed, removed}
+use Rattle.rules.specs.Queues.{isEmpty, pushed, removed}
 use Rattle.rules.specs.Board.{Board}
-use Rattle.rules.specs.Notices.{tokenOf, enqueues, token, bitAfter, interrupting, pushAqr, pushNqr, pushNbqr, canPost, canPostAll, fillHead, enqueueToken, post, postAll}
+use Rattle.rules.specs.Notices.{tokenOf, enqueues, token, bitAfter, interrupting, pushAqr, pushNqr, pushNbqr, canPostAll, fillHead, enqueueToken, post, postAll}
 use Rattle.rules.specs.Registers.{pointerOk, pointerOn, stepped, shownItself}
 use Rattle.rules.specs.Writes.{bitsCleared, numberSet}
+use Rattle.laws.specs.Sound.{Ring, Ranges}
 use Rattle.laws.specs.Writing.{OfNumber}
 use Rattle.laws.proofs.Sound.{tests}
+use Rattle.laws.proofs.Postings.{can-post}
 use Rattle.demands.specs.Types.{Queue, Saved, BlockAddress, Posting, Number, Mapped, Register}
 use Rattle.demands.proofs.Access.{after-step, after-shown}
 
--- The registers in their ranges, and the last sender.
-pub record Registers (s : Saved) : Type 0 where
-  pub pcsr0 : (not (resets (s .pcsr0)) && pcsr0Ok (s .pcsr0)) ≡ true
-  pub inthi : s .inthi ≤ 1
-  pub intlo : s .intlo ≤ 1
-  pub slots : s .slots ≤ 64
-  pub sendpointer : pointerOk sendSize (s .sendpointer) ≡ true
-  pub receivepointer : pointerOk receiveSize (s .receivepointer) ≡ true
-  pub lastsender : s .lastsender < 4
-
--- A queue's place and length.
-pub record Fits (q : Queue) : Type 0 where
-  pub place : q .place < 256
-  pub length : q .length ≤ 256
-
 -- All of the saved state, with these counts: t taken, n faulted.
 pub record Numbers (t n : ℕ) (s : Saved) : Type 0 where
-  pub registers : Registers s
-  pub nqr : Fits (s .nqr)
-  pub aqr : Fits (s .aqr)
-  pub nbqr : Fits (s .nbqr)
+  pub registers : Ranges s
+  pub nqr : Ring (s .nqr)
+  pub aqr : Ring (s .aqr)
+  pub nbqr : Ring (s .nbqr)
   pub taken : s .taken ≡ t
   pub faulted : s .faulted ≡ n
 
@@ -61,7 +48,7 @@ module _ {t n : ℕ} (s : Saved) (f : Numbers t n s) where
   pointers-set : (send receive : ℕ) → pointerOk sendSize send ≡ true → pointerOk receiveSize receive ≡ true → Numbers t n (withPointers send receive s)
   pointers-set send receive h k = search
 
-  queues-set : (nqr aqr nbqr : Queue) → Fits nqr → Fits aqr → Fits nbqr → Numbers t n (withQueues nqr aqr nbqr s)
+  queues-set : (nqr aqr nbqr : Queue) → Ring nqr → Ring aqr → Ring nbqr → Numbers t n (withQueues nqr aqr nbqr s)
   queues-set nqr aqr nbqr h k l = search
 
   pub sender-set : (v : ℕ) → v < 4 → Numbers t n (withLastSender v s)
@@ -73,12 +60,12 @@ module _ {t n : ℕ} (s : Saved) (f : Numbers t n s) where
 -- ---- queues
 
 -- After a removal, a push, and for the interrupt bit of a push.
-pub fits-removed : (q : Queue) → Fits q → Fits (removed q)
+pub ring-removed : (q : Queue) → Ring q → Ring (removed q)
 unfolding removed
-fits-removed q f = pick-holds Fits (isEmpty q) f (record { place = omega arith; length = omega arith })
+ring-removed q f = pick-holds Ring (isEmpty q) f (record { place = omega arith; length = omega arith })
 
-fits-pushed : (q : Queue) → q .length < 256 → Fits q → Fits (pushed q)
-fits-pushed q lt f = record { place = f .place; length = omega arith }
+ring-pushed : (q : Queue) → q .length < 256 → Ring q → Ring (pushed q)
+ring-pushed q lt f = record { place = f .place; length = omega arith }
 
 bit-after : (q : Queue) (bit : ℕ) → bit ≤ 1 → bitAfter q bit ≤ 1
 unfolding bitAfter
@@ -114,8 +101,8 @@ step-numbers {t} {f = n} r s f =
 pub shown-numbers : {t f : ℕ} (r : Register) (s : Saved) (receive : List ℕ) → Numbers t f s → Numbers t f (shownItself s receive r .saved)
 shown-numbers {t} {f = n} r s receive f =
     after-shown (Numbers t n) s receive f
-    (queues-set s f _ _ _ (fits-removed (s .nqr) (f .nqr)) (f .aqr) (f .nbqr))
-    (queues-set s f _ _ _ (f .nqr) (fits-removed (s .aqr) (f .aqr)) (f .nbqr)) r
+    (queues-set s f _ _ _ (ring-removed (s .nqr) (f .nqr)) (f .aqr) (f .nbqr))
+    (queues-set s f _ _ _ (f .nqr) (ring-removed (s .aqr) (f .aqr)) (f .nbqr)) r
 
 pub number-numbers : {t f : ℕ} (n : Number) (v : ℕ) (s : Saved) → OfNumber v n → Numbers t f s → Numbers t f (numberSet n v s)
 unfolding numberSet bitsCleared
@@ -135,18 +122,18 @@ unfolding pushAqr
 aqr-numbers {t} {f = n} w b room f =
     let s : Saved = b .saved in
     let g : Numbers t n (withBits _ _ s) = bits-set s f _ _ (bit-after (s .aqr) (s .inthi) (f .registers .inthi)) (f .registers .intlo) in
-    queues-set _ g _ _ _ (f .nqr) (fits-pushed (s .aqr) room (f .aqr)) (f .nbqr)
+    queues-set _ g _ _ _ (f .nqr) (ring-pushed (s .aqr) room (f .aqr)) (f .nbqr)
 
 nqr-numbers : {t f : ℕ} (w : ℕ) (b : Board) → b .saved .nqr .length < 256 → Numbers t f (b .saved) → Numbers t f (pushNqr w b .saved)
 unfolding pushNqr
 nqr-numbers {t} {f = n} w b room f =
     let s : Saved = b .saved in
     let g : Numbers t n (withBits _ _ s) = bits-set s f _ _ (f .registers .inthi) (bit-after (s .nqr) (s .intlo) (f .registers .intlo)) in
-    queues-set _ g _ _ _ (fits-pushed (s .nqr) room (f .nqr)) (f .aqr) (f .nbqr)
+    queues-set _ g _ _ _ (ring-pushed (s .nqr) room (f .nqr)) (f .aqr) (f .nbqr)
 
 pub nbqr-numbers : {t f : ℕ} (a : BlockAddress) (b : Board) → b .saved .nbqr .length < 256 → Numbers t f (b .saved) → Numbers t f (pushNbqr a b .saved)
 unfolding pushNbqr
-nbqr-numbers a b room f = queues-set (b .saved) f _ _ _ (f .nqr) (f .aqr) (fits-pushed (b .saved .nbqr) room (f .nbqr))
+nbqr-numbers a b room f = queues-set (b .saved) f _ _ _ (f .nqr) (f .aqr) (ring-pushed (b .saved .nbqr) room (f .nbqr))
 
 -- A push on NBQR keeps the length of Receive RAM.
 pub push-length : (a : BlockAddress) (b : Board) → length (pushNbqr a b .receive) ≡ length (b .receive)
@@ -160,10 +147,9 @@ TokenFits nqr receive (Posting.On l n) = enqueues (tokenOf receive l) ≡ true �
 
 -- By the test before a posting.
 pub token-fits : (s : Saved) (receive : List ℕ) (p : Posting) → canPostAll s receive p ≡ true → TokenFits (s .nqr) receive p
-unfolding canPostAll canPost
+unfolding canPostAll
 token-fits s receive Posting.Silent e = tt
-token-fits s receive (Posting.On l n) e =
-    λ h. ltb-true (s .nqr .length) 256 (or-second (not (enqueues (tokenOf receive l))) (hasRoom (s .nqr)) (search tests) (not-no h))
+token-fits s receive (Posting.On l n) e = can-post s receive l e .nqr
 
 -- After a posting.
 pub post-numbers : {t f : ℕ} (p : Posting) (b : Board) → TokenFits (b .saved .nqr) (b .receive) p → Numbers t f (b .saved) → Numbers t f (postAll p b .saved)
@@ -172,7 +158,7 @@ post-numbers Posting.Silent b h f = f
 post-numbers {t} {f = n} (Posting.On l w) b h f =
     let x : ℕ = tokenOf (b .receive) l in
     let c : Board = fillHead l w b in
-    let g : Numbers t n (c .saved) = queues-set (b .saved) f _ _ _ (f .nqr) (f .aqr) (fits-removed (b .saved .nbqr) (f .nbqr)) in
+    let g : Numbers t n (c .saved) = queues-set (b .saved) f _ _ _ (f .nqr) (f .aqr) (ring-removed (b .saved .nbqr) (f .nbqr)) in
     pick-by (λ (y : Board). Numbers t n (y .saved)) (enqueues x) (λ e. nqr-numbers (token x) c (h e) g) (λ e. g)
 
 -- A posting keeps the length of Receive RAM.

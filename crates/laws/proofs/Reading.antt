@@ -1,5 +1,5 @@
 -- What an access reaches: a register, or a word of its RAM; and what the verdict on a read says. Assumes nothing.
-use Prim.Native.Nat.{ℕ, _≤_, _<_}
+use Prim.Native.Nat.{ℕ, _*_, _≤_, _<_}
 use native.Mathlib.Omega.{arith}
 use borrow.Author.Tests.{leb-true}
 use lib.Dec.{leb}
@@ -12,6 +12,7 @@ use Rattle.rules.specs.Calls.{judgeRead}
 use Rattle.laws.specs.Types.{Mapped, Reach}
 use Rattle.laws.specs.Sound.{Ranges, Sound}
 use Rattle.laws.specs.Verdicts.{Refuses, OfRead}
+use Rattle.laws.proofs.Sound.{pointer-inside}
 use Rattle.laws.proofs.Gate.{plain, gate-holds}
 
 -- What a register number hands on: a descriptor's word, or the low byte of a page.
@@ -55,16 +56,24 @@ Held m (Reach.InSend i) = i < sendSize
 Held m (Reach.InReceive i) = i < receiveSize
 
 module _ (m : Machine) (ok : Ranges (m .saved)) where
+  -- The two pointers.
+  send-inside : m .saved .sendpointer < 4 * sendSize
+  send-inside = pointer-inside sendSize _ (ok .sendpointer)
+
+  receive-inside : m .saved .receivepointer < 4 * receiveSize
+  receive-inside = pointer-inside receiveSize _ (ok .receivepointer)
+
+  -- By the map.
   by-map : (r : Mapped) → HandsOn r → Held m (reach (m .saved) r)
   unfolding reach
   by-map (Mapped.Single x) h = h
-  by-map Mapped.SendWord h = omega (arith, ok .sendpointer .inside)
-  by-map Mapped.SendStep h = omega (arith, ok .sendpointer .inside)
-  by-map Mapped.ReceiveWord h = omega (arith, ok .receivepointer .inside)
-  by-map Mapped.ReceiveStep h = omega (arith, ok .receivepointer .inside)
+  by-map Mapped.SendWord h = omega (arith, send-inside)
+  by-map Mapped.SendStep h = omega (arith, send-inside)
+  by-map Mapped.ReceiveWord h = omega (arith, receive-inside)
+  by-map Mapped.ReceiveStep h = omega (arith, receive-inside)
   by-map (Mapped.DescriptorWord i) h = omega arith
-  by-map (Mapped.SendPage low) h = omega (arith, ok .sendpointer .inside)
-  by-map (Mapped.ReceivePage low) h = omega (arith, ok .receivepointer .inside)
+  by-map (Mapped.SendPage low) h = omega (arith, send-inside)
+  by-map (Mapped.ReceivePage low) h = omega (arith, receive-inside)
   by-map Mapped.Unmapped h = plain (omega arith)
 
   -- Of a machine whose pointers are in their ranges.

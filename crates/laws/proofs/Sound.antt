@@ -2,7 +2,7 @@
 use mathlib.Core.Path.{_≡_, refl}
 use mathlib.Core.Logic.{_≢_}
 use mathlib.Core.Bool.{Bool, true, false, not, _&&_, _||_}
-use Prim.Native.Nat.{ℕ, _+_, _%_, _≤_}
+use Prim.Native.Nat.{ℕ, _+_, _*_, _%_, _<_, _≤_}
 use borrow.Author.Tests.{ltb-true, leb-true, eqb-true, ne-eqb}
 use lib.Dec.{eqb, ltb, leb}
 use lib.ListN.{length}
@@ -10,6 +10,8 @@ use Rattle.ground.proofs.All.{all-at}
 use Rattle.ground.proofs.Tests.{and-left, and-right, or-first, or-second, not-no}
 use Rattle.rules.specs.Words.{noteIndex, isDirectIo, isControlPkt, notifies}
 use Rattle.rules.specs.Memory.{Machine, sizesOk, lists, directFrom, directTo, isBlock, isBlockOrNone}
+use Rattle.rules.specs.Saved.{resets, pcsr0Ok, ownNode}
+use Rattle.rules.specs.Registers.{pointerOk}
 use Rattle.rules.specs.Sending.{addressOk, messageSizeOk, goRule}
 use Rattle.rules.specs.Sound.{isSized, isSound, registersOk, queuesOk, headsOk, placesOk, descriptorOk, descriptorsOk, soundOk}
 use Rattle.laws.specs.Types.{Descriptor, Saved}
@@ -26,6 +28,14 @@ sized send receive dataLength n h = search tests depth 20
 pub ranges : (s : Saved) → registersOk s ≡ true → Ranges s
 unfolding registersOk
 ranges s h = search tests depth 20
+
+-- A node's own number.
+pub own-node : {s : Saved} → Ranges s → ownNode (s .pcsr0) ≤ 4095
+own-node {s} r = let ok : pcsr0Ok (s .pcsr0) ≡ true = and-right (not (resets (s .pcsr0))) _ (r .pcsr0) in search tests depth 20
+
+-- A pointer into a RAM of n words.
+pub pointer-inside : (n p : ℕ) → pointerOk n p ≡ true → p < 4 * n
+pointer-inside n p h = search tests depth 20
 
 -- The three queues.
 pub rings : (s : Saved) → queuesOk s ≡ true → Ring (s .nqr) × Ring (s .aqr) × Ring (s .nbqr)

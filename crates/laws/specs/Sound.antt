@@ -1,25 +1,21 @@
 -- What is known of a machine that is sized and sound, and of a descriptor that keeps the go rule. Assumes nothing.
 use mathlib.Core.Path.{_≡_}
-use mathlib.Core.Bool.{true, false}
-use Prim.Native.Nat.{ℕ, _+_, _*_, _/_, _%_, _<_, _≤_}
+use mathlib.Core.Bool.{true, false, not, _&&_}
+use Prim.Native.Nat.{ℕ, _+_, _/_, _%_, _<_, _≤_}
 use lib.ListN.{length}
 use Rattle.rules.specs.Words.{most24, noteIndex, offset, isDirectIo, isControlPkt, notifies}
 use Rattle.rules.specs.Memory.{Machine, sendSize, receiveSize, dataMost, noticesMost, blockSize, queueSize, descriptors, slotsMost, lists}
 use Rattle.rules.specs.Memory.{directFrom, directTo, isBlockOrNone}
-use Rattle.rules.specs.Saved.{ownNode}
+use Rattle.rules.specs.Saved.{resets, pcsr0Ok}
 use Rattle.rules.specs.Notices.{headOf, placeOf}
 use Rattle.rules.specs.Sending.{descriptorAt, isActive, goRule}
+use Rattle.rules.specs.Registers.{pointerOk}
 use Rattle.laws.specs.Types.{Queue, Saved, ListIndex, DescriptorIndex, Descriptor}
 
 -- A queue whose entries lie in its 256 words.
 pub record Ring (q : Queue) : Type 0 where
   pub place : q .place < queueSize
   pub length : q .length ≤ queueSize
-
--- A pointer to a word of a RAM of n words.
-pub record Pointer (n p : ℕ) : Type 0 where
-  pub whole : p % 4 ≡ 0
-  pub inside : p < 4 * n
 
 -- A block of a notice memory of n words.
 pub record Block (n a : ℕ) : Type 0 where
@@ -36,14 +32,14 @@ pub record Sized (sendLength receiveLength dataLength n : ℕ) : Type 0 where
   pub most : n ≤ noticesMost
   pub blocks : n % blockSize ≡ 0
 
--- The registers.
+-- The registers in their ranges, and the last sender.
 pub record Ranges (s : Saved) : Type 0 where
-  pub node : ownNode (s .pcsr0) ≤ 4095
+  pub pcsr0 : (not (resets (s .pcsr0)) && pcsr0Ok (s .pcsr0)) ≡ true
   pub inthi : s .inthi ≤ 1
   pub intlo : s .intlo ≤ 1
   pub slots : s .slots ≤ slotsMost
-  pub sendpointer : Pointer sendSize (s .sendpointer)
-  pub receivepointer : Pointer receiveSize (s .receivepointer)
+  pub sendpointer : pointerOk sendSize (s .sendpointer) ≡ true
+  pub receivepointer : pointerOk receiveSize (s .receivepointer) ≡ true
   pub lastsender : s .lastsender < descriptors
 
 -- A message that lies in DIO.

@@ -17,7 +17,7 @@ use Rattle.rules.specs.Sending.{nextPayload, sendPosting}
 use Rattle.rules.specs.Calls.{judgeSend}
 use Rattle.laws.specs.Sound.{Going, theDescriptor, Sound}
 use Rattle.laws.specs.Verdicts.{Chosen}
-use Rattle.laws.proofs.Sound.{going}
+use Rattle.laws.proofs.Sound.{own-node, going}
 use Rattle.laws.proofs.Postings.{send-listed}
 use Rattle.laws.proofs.Verdicts.{of-send}
 use Rattle.sound.specs.Gated.{Gated}
@@ -96,7 +96,7 @@ module _ (m : Machine) (room : ℕ) (i : DescriptorIndex) (c : Chosen m room i) 
           low = c .low;
           size = sound .sized .send;
           forms = record {
-            own = sound .ranges .node;
+            own = own-node (sound .ranges);
             roomy = c .long;
             bytes = λ some e. in-bytes d n keeps some e;
             direct = λ some e. omega (arith, in-direct d n keeps some e, sound .sized .send);

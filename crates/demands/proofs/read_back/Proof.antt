@@ -25,7 +25,7 @@ use Rattle.rules.specs.Sound.{isSized, isSound}
 use Rattle.rules.specs.Calls.{sends, perform, judgeSend, packetFrom, actSend, sendCall}
 use Rattle.laws.specs.Sound.{Message, Sound}
 use Rattle.laws.specs.Verdicts.{OfSend}
-use Rattle.laws.proofs.Sound.{tests, going, sound}
+use Rattle.laws.proofs.Sound.{tests, own-node, going, sound}
 use Rattle.laws.proofs.Verdicts.{of-send}
 use Rattle.demands.specs.Types.{DescriptorIndex, Metadata, Descriptor, Header, Sending}
 use Rattle.demands.specs.Fields.{Below, Fields, word0, word1, word2, word3, layout, Within, Allowed, sentFields}
@@ -181,7 +181,7 @@ formed-read : (m : Machine) (i : DescriptorIndex) → Below (2 ^ 32) (m .send) �
 unfolding d f
 formed-read m i words inside sized ok lt active =
     let t : Sound m = sound m sized ok in
-    read m words inside i (t .sized .send) (t .ranges .node) (t .active i lt active)
+    read m words inside i (t .sized .send) (own-node (t .ranges)) (t .active i lt active)
 
 -- By a send call's verdict: the packet stands at the start of the room.
 sent-by : (m : Machine) (room : List ℕ) (v : Sending) → Below (2 ^ 32) (m .send) → Below 256 (m .bytes) → OfSend m (length room) v
@@ -195,7 +195,7 @@ sent-by m room (Sending.Sends i) words inside h z =
     record {
       descriptor = i;
       chosen = h .first;
-      packet = rw e (read m words inside i (h .sound .sized .send) (h .sound .ranges .node) (h .rule));
+      packet = rw e (read m words inside i (h .sound .sized .send) (own-node (h .sound .ranges)) (h .rule));
     }
 
 -- By the call.
