@@ -19,7 +19,7 @@ use Rattle.rules.specs.Sending.{descriptorAt}
 use Rattle.rules.specs.Writes.{clearDescriptors, reset}
 use Rattle.rules.specs.Sound.{isSized}
 use Rattle.rules.specs.Calls.{Call, perform}
-use Rattle.laws.proofs.Sound.{tests}
+use Rattle.laws.proofs.Sound.{sized}
 use Rattle.demands.specs.Runs.{Run, start, _▸_, calls, outside, rewritten, afterEvent, after, clears, act}
 use Rattle.demands.specs.History.{gathered, NoReset, begun, AfterReset, answerOf, answers}
 use Rattle.demands.specs.Places.{entries}
@@ -50,10 +50,9 @@ reset-sized : (v : ℕ) (m : Machine) → isSized m ≡ true → isSized (reset 
 unfolding reset clearDescriptors
 reset-sized v m h =
     let zero-word : ℕ = 0 in
-    let size : length (m .send) ≡ 1024 = eqb-true (length (m .send)) 1024 (search tests depth 20) in
-    let send : length (over clearDescriptors (m .send)) ≡ length (m .send) = length-over clearDescriptors (m .send) (omega arith) in
-    let receive : length (replicate 2048 zero-word) ≡ length (m .receive) =
-    length-replicate 2048 zero-word ∙ sym (eqb-true (length (m .receive)) 2048 (search tests depth 20)) in
+    let known = sized (length (m .send)) (length (m .receive)) (length (m .bytes)) (length (m .notices)) h in
+    let send : length (over clearDescriptors (m .send)) ≡ length (m .send) = length-over clearDescriptors (m .send) (omega (arith, known .send)) in
+    let receive : length (replicate 2048 zero-word) ≡ length (m .receive) = length-replicate 2048 zero-word ∙ sym (known .receive) in
     let notices : length (replicate (length (m .notices)) zero-word) ≡ length (m .notices) = length-replicate (length (m .notices)) zero-word in
     (λ i. sizesOk (send i) (receive i) (length (m .bytes)) (notices i)) ∙ h
 
