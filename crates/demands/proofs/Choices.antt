@@ -1,20 +1,21 @@
 -- What the table of receipt and the choice of a descriptor say of what they name. Assumes nothing.
-use Prim.Native.Nat.{ℕ, zero, suc, _+_, _%_, _<_}
+use Prim.Native.Nat.{ℕ, zero, suc, _+_, _%_, _<_, _≤_}
 use mathlib.Core.Path.{_≡_, refl, sym, ap, _∙_}
 use mathlib.Core.Bool.{Bool, true, false, not, _&&_}
 use mathlib.Core.List.{List}
 use native.Mathlib.Omega.{arith}
 use lib.Dec.{ltb}
-use borrow.Author.Tests.{ltb-true}
+use borrow.Author.Tests.{ltb-true, leb-true}
 use Rattle.ground.specs.Choice.{pick}
 use Rattle.ground.proofs.Choice.{pick-by, need-holds}
 use Rattle.ground.proofs.Tests.{and-right, or-second, not-no}
-use Rattle.rules.specs.Words.{noteIndex, notifies}
+use Rattle.rules.specs.Words.{noteIndex, notifies, offset}
 use Rattle.rules.specs.Memory.{descriptor, descriptors, lists}
+use Rattle.rules.specs.Packet.{packetOf}
 use Rattle.rules.specs.Slots.{slotAt, slotOk, slotNotifies, slotNoteIndex, ackNoteIndex}
 use Rattle.rules.specs.Receipt.{receiptOf, completes, receiptPosting}
 use Rattle.rules.specs.Sending.{goRule, isLast, sendPosting, isReady, firstFrom, nextSender, descriptorAt}
-use Rattle.demands.specs.Types.{Saved, DescriptorIndex, Descriptor, Slot, Packet, Posting, Receipt, Found}
+use Rattle.demands.specs.Types.{Saved, DescriptorIndex, Descriptor, SlotIndex, Slot, Packet, Posting, Receipt, Found}
 use Rattle.demands.proofs.Judged.{tests}
 
 -- The list that is posted on is one that there is.
@@ -24,28 +25,34 @@ Listed (Posting.On l n) = l .0 < lists
 
 -- ---- receipt
 
--- A slot that is named is below the count, and valid.
-abbrev pub OfReceipt : Saved → List ℕ → ℕ → Receipt → Type 0
-OfReceipt s receive n (Receipt.Fails status) = Unit {0}
-OfReceipt s receive n (Receipt.Acks i) = (i .0 < s .slots) × (slotOk (slotAt receive i) n ≡ true)
-OfReceipt s receive n (Receipt.Lands i) = (i .0 < s .slots) × (slotOk (slotAt receive i) n ≡ true)
+-- The slot that it was judged by: below the count, as it stands in the table, and valid.
+pub record Judged (s : Saved) (receive : List ℕ) (n : ℕ) (i : SlotIndex) (v : Slot) : Type 0 where
+  pub low : i .0 < s .slots
+  pub words : v ≡ slotAt receive i
+  pub ok : slotOk v n ≡ true
+
+-- By what the packet comes to; data that lands fits in the slot's buffer.
+abbrev pub OfReceipt : Saved → List ℕ → ℕ → Packet → Receipt → Type 0
+OfReceipt s receive n p (Receipt.Fails f) = Unit {0}
+OfReceipt s receive n p (Receipt.Acks i v) = Judged s receive n i v
+OfReceipt s receive n p (Receipt.Lands i v) = Judged s receive n i v × (offset (p .header .control0) + p .payloadlength ≤ v .size)
 
 -- By the table of steps.
-pub of-receipt : (s : Saved) (receive : List ℕ) (n : ℕ) (packet : List ℕ) → OfReceipt s receive n (receiptOf s receive n packet)
+pub of-receipt : (s : Saved) (receive : List ℕ) (n : ℕ) (packet : List ℕ) → OfReceipt s receive n (packetOf packet) (receiptOf s receive n packet)
 unfolding receiptOf
 of-receipt s receive n packet =
-    let P : Receipt → Type 0 = OfReceipt s receive n in
+    let P : Receipt → Type 0 = OfReceipt s receive n (packetOf packet) in
     need-holds P _ (λ e. tt) λ _.
     need-holds P _ (λ e. tt) λ _.
     need-holds P _ (λ e. tt) λ _.
     need-holds P _ (λ e. tt) λ few.
     need-holds P _ (λ e. tt) λ ok.
     need-holds P _ (λ e. tt) λ _.
-    need-holds P _ (λ e. (ltb-true _ _ few, ok)) λ _.
+    need-holds P _ (λ e. record { low = ltb-true _ _ few; words = refl; ok = ok }) λ _.
     need-holds P _ (λ e. tt) λ _.
+    need-holds P _ (λ e. tt) λ fits.
     need-holds P _ (λ e. tt) λ _.
-    need-holds P _ (λ e. tt) λ _.
-    need-holds P _ (λ e. tt) λ _. (ltb-true _ _ few, ok)
+    need-holds P _ (λ e. tt) λ _. (record { low = ltb-true _ _ few; words = refl; ok = ok }, leb-true _ _ fits)
 
 -- A valid slot's lists are there.
 acks-listed : (v : Slot) (n : ℕ) → slotOk v n ≡ true → ackNoteIndex (v .acknote) < lists
@@ -59,14 +66,13 @@ notes-listed v n e h =
     (or-second (not (slotNotifies (v .noteandflags))) (ltb (slotNoteIndex (v .noteandflags)) lists) (search tests depth 20) (not-no h))
 
 -- So what a receipt posts is on a list that there is.
-pub receipt-listed : (s : Saved) (receive : List ℕ) (n : ℕ) (p : Packet) (r : Receipt) → OfReceipt s receive n r → Listed (receiptPosting receive p r)
+pub receipt-listed : (s : Saved) (receive : List ℕ) (n : ℕ) (p : Packet) (r : Receipt) → OfReceipt s receive n p r → Listed (receiptPosting p r)
 unfolding receiptPosting
-receipt-listed s receive n p (Receipt.Fails status) h = omega arith
-receipt-listed s receive n p (Receipt.Acks i) h = acks-listed (slotAt receive i) n (h .1)
-receipt-listed s receive n p (Receipt.Lands i) h =
-    let v : Slot = slotAt receive i in
+receipt-listed s receive n p (Receipt.Fails f) h = omega arith
+receipt-listed s receive n p (Receipt.Acks i v) h = acks-listed v n (h .ok)
+receipt-listed s receive n p (Receipt.Lands i v) h =
     pick-by Listed (completes p v && slotNotifies (v .noteandflags))
-    (λ e. notes-listed v n (h .1) (and-right (completes p v) (slotNotifies (v .noteandflags)) e)) (λ e. tt)
+    (λ e. notes-listed v n (h .0 .ok) (and-right (completes p v) (slotNotifies (v .noteandflags)) e)) (λ e. tt)
 
 -- ---- send
 

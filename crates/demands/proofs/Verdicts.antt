@@ -93,10 +93,10 @@ of-read m r = gate-holds (OfRead m) Reach.No m (λ e. e) (λ e. e) (λ f. of-map
 
 -- ---- receive
 
--- A packet that is taken: what it comes to, and that there is room for it.
+-- A packet that is taken: as it is read, what it comes to, and that there is room for it.
 abbrev pub OfReceive : Machine → List ℕ → Receiving → Type 0
 OfReceive m packet (Receiving.No why) = Refuses m (refusalNumber why)
-OfReceive m packet (Receiving.ComesTo r) = Fit m × (r ≡ receipt m packet) × (hasRoomFor (m .saved) (m .receive) (packetOf packet) r ≡ true)
+OfReceive m packet (Receiving.ComesTo p r) = Fit m × (p ≡ packetOf packet) × (r ≡ receipt m packet) × (hasRoomFor (m .saved) (m .receive) p r ≡ true)
 
 pub of-receive : (m : Machine) (packet : List ℕ) → OfReceive m packet (judgeReceive m packet)
 unfolding judgeReceive
@@ -105,7 +105,7 @@ of-receive m packet =
     gate-holds P Receiving.No m (λ e. e) (λ e. e) λ f.
     need-holds P _ (λ e. plain (omega arith)) λ _.
     need-holds P _ (λ e. plain (omega arith)) λ _.
-    need-holds P _ (λ e. plain (omega arith)) λ room. (f, refl, room)
+    need-holds P _ (λ e. plain (omega arith)) λ room. (f, refl, refl, room)
 
 -- ---- send
 
