@@ -257,7 +257,7 @@ pub enum Fault {
     BodyCheck,
 }
 
-// What a packet comes to by the steps of receipt: a fault, an ack for a slot, or data that lands in a slot; with the slot that it was judged by.
+// What a packet comes to by the steps of receipt: a fault; an ack for a slot, or data that lands in one, with the slot as it was judged.
 pub enum Receipt {
     Fails(Fault),
     Acks(SlotIndex, Slot),
