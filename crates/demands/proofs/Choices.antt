@@ -26,7 +26,7 @@ Listed (Posting.On l n) = l .0 < lists
 -- ---- receipt
 
 -- The slot that it was judged by: below the count, as it stands in the table, and valid.
-pub record Judged (s : Saved) (receive : List ℕ) (n : ℕ) (i : SlotIndex) (v : Slot) : Type 0 where
+pub record Valid (s : Saved) (receive : List ℕ) (n : ℕ) (i : SlotIndex) (v : Slot) : Type 0 where
   pub low : i .0 < s .slots
   pub words : v ≡ slotAt receive i
   pub ok : slotOk v n ≡ true
@@ -34,8 +34,8 @@ pub record Judged (s : Saved) (receive : List ℕ) (n : ℕ) (i : SlotIndex) (v 
 -- By what the packet comes to; data that lands fits in the slot's buffer.
 abbrev pub OfReceipt : Saved → List ℕ → ℕ → Packet → Receipt → Type 0
 OfReceipt s receive n p (Receipt.Fails f) = Unit {0}
-OfReceipt s receive n p (Receipt.Acks i v) = Judged s receive n i v
-OfReceipt s receive n p (Receipt.Lands i v) = Judged s receive n i v × (offset (p .header .control0) + p .payloadlength ≤ v .size)
+OfReceipt s receive n p (Receipt.Acks i v) = Valid s receive n i v
+OfReceipt s receive n p (Receipt.Lands i v) = Valid s receive n i v × (offset (p .header .control0) + p .payloadlength ≤ v .size)
 
 -- By the table of steps.
 pub of-receipt : (s : Saved) (receive : List ℕ) (n : ℕ) (packet : List ℕ) → OfReceipt s receive n (packetOf packet) (receiptOf s receive n packet)

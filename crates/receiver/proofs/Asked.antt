@@ -19,7 +19,7 @@ use Rattle.rules.specs.declared.SlotIndex.{SlotIndex}
 use Rattle.rules.specs.Words.{dstNode, dstSlot, isAckPkt, incarnation, offset}
 use Rattle.rules.specs.Memory.{receiveSize, slotsMost, slot}
 use Rattle.rules.specs.Saved.{ownIncarnation, ownNode}
-use Rattle.rules.specs.Packet.{packetOf, headerChecks, fieldsOk, bodyChecks}
+use Rattle.rules.specs.Packet.{headerChecks, fieldsOk, bodyChecks}
 use Rattle.rules.specs.Slots.{slotAt, slotOk, within24}
 use Rattle.rules.specs.Receipt.{newBytesToGo, receiptOf}
 use Rattle.receiver.specs.Judging.{Judgeable, Addressed, Counting, Decides}
