@@ -6,10 +6,13 @@ use Rattle.rules.specs.Registers.{decode}
 use Rattle.rules.specs.Sending.{nextSender, markStalled}
 use Rattle.rules.specs.Replies.{Outcome, refusalNumber, refused}
 use Rattle.rules.specs.Calls.{Call, writes, reads, receives, sends, takes, unknown, perform, gate, unknownCall, judgeRead, readDone, actRead, readCall, judgeWrite, writeDone, actWrite, writeCall, judgeReceive, actReceive, receiveCall, judgeSend, actSend, sendCall, judgeTake, actTake, takeCall}
+use Rattle.laws.specs.Verdicts.{Refuses, OfRead, OfReceive, OfSend, OfTake}
+use Rattle.laws.specs.Writing.{OfWrite}
+use Rattle.laws.proofs.Verdicts.{of-unknown, of-receive, of-send, of-take}
+use Rattle.laws.proofs.Reading.{of-read}
+use Rattle.laws.proofs.Writing.{of-write}
 use Rattle.demands.specs.Types.{DescriptorIndex, Refusal, NoRegister, Fabric, Mapped, Reach, Writing, Receipt, Receiving, Found, Sending, Taking}
 use Rattle.demands.specs.Demands.{roomOf}
-use Rattle.demands.proofs.Verdicts.{Refuses, of-unknown, OfRead, of-read, OfReceive, of-receive, OfSend, of-send, OfTake, of-take}
-use Rattle.demands.proofs.Written.{OfWrite, of-write}
 
 -- By what it gives, on this machine with this room.
 pub data Answered (m : Machine) (room : List ℕ) (o : Outcome) : Type 0 where
@@ -43,23 +46,23 @@ receive-answered m packet (Receiving.ComesTo p (Receipt.Fails f)) h = fault refl
 receive-answered m packet (Receiving.ComesTo p (Receipt.Acks i v)) h = done refl
 receive-answered m packet (Receiving.ComesTo p (Receipt.Lands i v)) h = done refl
 
-send-answered : (m : Machine) (room : List ℕ) (s : Sending) → OfSend m s → Answered m room (actSend m room s)
+send-answered : (m : Machine) (room : List ℕ) (s : Sending) → OfSend m (length room) s → Answered m room (actSend m room s)
 unfolding actSend
 send-answered m room (Sending.No why) h = refusal why h refl
 send-answered m room (Sending.Sends d) h = done refl
-send-answered m room (Sending.Waits d) h = waits d h refl
+send-answered m room (Sending.Waits d) h = waits d (h .first) refl
 
-take-answered : (m : Machine) (l : ℕ) (room : List ℕ) (t : Taking) → OfTake m l t → Answered m room (actTake m room t)
+take-answered : (m : Machine) (room : List ℕ) (t : Taking) → OfTake m (length room) t → Answered m room (actTake m room t)
 unfolding actTake
-take-answered m l room (Taking.No why) h = refusal why h refl
-take-answered m l room (Taking.Takes i b next) h = done refl
+take-answered m room (Taking.No why) h = refusal why h refl
+take-answered m room (Taking.Takes l b next) h = done refl
 
 -- Any call.
 pub answered : (c : Call) (m : Machine) → Answered m (roomOf c) (perform c m)
 unfolding perform readCall writeCall receiveCall sendCall takeCall unknownCall
 answered (writes a v) m = write-answered m (decode a) v (judgeWrite m a v) (of-write m a v)
-answered (reads a) m = read-answered m (decode a) (judgeRead m (decode a)) (of-read m (decode a))
+answered (reads a) m = read-answered m (decode a) (judgeRead m (decode a)) (of-read m a)
 answered (receives packet) m = receive-answered m packet (judgeReceive m packet) (of-receive m packet)
 answered (sends ready room) m = send-answered m room (judgeSend m ready (length room)) (of-send m ready (length room))
-answered (takes l room) m = take-answered m l room (judgeTake m l (length room)) (of-take m l (length room))
+answered (takes l room) m = take-answered m room (judgeTake m l (length room)) (of-take m l (length room))
 answered unknown m = refusal (gate (λ why. why) m NoRegister) (of-unknown m) refl

@@ -2,33 +2,21 @@
 use Prim.Native.Nat.{ℕ, _+_, _/_, _%_, _≤_, _<_}
 use mathlib.Core.Path.{_≡_, sym, ap, _∙_}
 use mathlib.Core.Logic.{_≢_}
-use mathlib.Core.Bool.{true, _||_}
+use mathlib.Core.Bool.{_||_}
 use mathlib.Core.List.{List}
 use native.Mathlib.Omega.{arith}
 use native.Mathlib.Decide.{decLt}
 use lib.Dec.{eqb}
 use lib.ListN.{length, getD}
 use lib.Seq.{sets}
-use borrow.Author.Tests.{eqb-true, leb-true}
 use Rattle.ground.specs.Lists.{part, putAt}
 use Rattle.ground.proofs.Lists.{getD-sets-in, getD-part, sets-put, part-put, part-put-before, part-put-after}
-use Rattle.rules.specs.Memory.{block, isBlock, nextOf}
+use Rattle.rules.specs.Memory.{block, nextOf}
 use Rattle.rules.specs.Notices.{blockWords}
+use Rattle.laws.specs.Sound.{Block}
 use Rattle.demands.specs.Types.{Notice}
 use Rattle.demands.specs.Runs.{noticeIn}
 use Rattle.demands.specs.Places.{isBare, noticeAt}
-use Rattle.demands.proofs.Judged.{tests}
-
--- A block address of a notice memory of n words.
-pub record Block (n b : ℕ) : Type 0 where
-  pub aligned : b % 32 ≡ 0
-  pub low : 32 ≤ b
-  pub inside : b / 4 + 8 ≤ n
-
--- By the test.
-pub is-block : (n a : ℕ) → isBlock n a ≡ true → Block n a
-is-block n a e =
-    record { aligned = eqb-true (a % 32) 0 (search tests); low = leb-true 32 a (search tests); inside = leb-true (a / 4 + 8) n (search tests) }
 
 -- The next word of the block at an address.
 abbrev pub next : List ℕ → ℕ → ℕ

@@ -1,24 +1,22 @@
 -- What a push on NBQR, a posting and a take make of the view. Assumes nothing.
 use Prim.Native.Nat.{ℕ, _+_, _/_, _<_}
-use mathlib.Core.Path.{_≡_, sym, ap, _∙_}
+use mathlib.Core.Path.{_≡_, refl, sym, ap, _∙_}
 use mathlib.Core.Logic.{_≢_}
 use mathlib.Core.Bool.{true}
 use mathlib.Core.List.{List, [], _∷_, _++_}
 use native.Mathlib.Omega.{arith}
-use lib.Dec.{eqb}
 use lib.ListN.{length, getD, set, drop, length-set}
 use lib.Seq.{sets, getD-set-same, getD-set-other}
-use borrow.Author.Tests.{eqb-false, not-true}
 use Rattle.ground.proofs.Choice.{pick-holds}
 use Rattle.rules.specs.Memory.{list, block, lists, headWord, placeWord, nbqrFrom}
 use Rattle.rules.specs.Queues.{oldest, removed}
 use Rattle.rules.specs.Board.{Board, board}
-use Rattle.rules.specs.Notices.{headOf, tokenOf, enqueues, token, placeOf, blockWords, pushNbqr, canPost, canPostAll, fillHead, enqueueToken, post, postAll, takeBlock}
-use Rattle.demands.specs.Types.{Queue, Saved, ListIndex, BlockAddress, Notice, Posting}
+use Rattle.rules.specs.Notices.{headOf, tokenOf, enqueues, token, placeOf, blockWords, pushNbqr, canPostAll, fillHead, enqueueToken, post, postAll, takeBlock}
+use Rattle.laws.specs.Postings.{Listed}
+use Rattle.laws.proofs.Postings.{can-post}
+use Rattle.demands.specs.Types.{Queue, ListIndex, BlockAddress, Notice, Posting}
 use Rattle.demands.specs.Runs.{Act, posts, postingAct}
 use Rattle.demands.specs.Places.{entries}
-use Rattle.demands.proofs.Judged.{tests}
-use Rattle.demands.proofs.Choices.{Listed}
 use Rattle.demands.proofs.Blocks.{next}
 use Rattle.demands.proofs.View.{View, given, readOn, moved, May}
 use Rattle.demands.proofs.Ring.{entry, entries-length, entries-same, entries-push, entries-pop}
@@ -107,29 +105,22 @@ take-view l b size lt room =
       queue = entries-same r r′ q 0 (q .length) (λ j h. getD-set-other r (placeWord l) (entry q (0 + j)) x 0 (omega arith)) t ++ (at t ∷ []);
     })
 
--- What a posting needs.
-can-post : (s : Saved) (receive : List ℕ) (l : ListIndex) → canPost s receive l ≡ true → (headOf receive l ≢ 0) × (s .nbqr .length ≢ 0)
-unfolding canPost
-can-post s receive l e = (
-  eqb-false (headOf receive l) 0 (not-true (eqb (headOf receive l) 0) (search tests)),
-  eqb-false (s .nbqr .length) 0 (not-true (eqb (s .nbqr .length) 0) (search tests)),
-)
-
 -- What a call has to post is posted, after stores that the view does not show.
 pub post-step : (p : Posting) (b b′ : Board) → Quiet b b′ → Listed p → canPostAll (b .saved) (b .receive) p ≡ true
     → b .saved .nbqr .place < 256 → length (b .receive) ≡ 2048 → Step (postingAct p) (boardView b) (boardView (postAll p b′))
 unfolding canPostAll postAll postingAct
-post-step Posting.Silent b b′ q at e inside size = record { may = tt; is = quiet-view q }
-post-step (Posting.On l n) b b′ q at e inside size =
+post-step Posting.Silent b b′ q listed e inside size = record { may = tt; is = quiet-view q }
+post-step (Posting.On l n) b b′ q listed e inside size =
+    let at : l .0 < lists = listed .low l n refl in
     let s : Queue = b .saved .nbqr in
     let c = can-post (b .saved) (b .receive) l e in
     record {
       may = (
         at,
-        λ z. c .0 (sym (below-at (heads (b .receive)) (l .0) at) ∙ z),
-        omega (arith, entries-length (b .receive) s 0 (s .length), c .1),
+        λ z. c .head (sym (below-at (heads (b .receive)) (l .0) at) ∙ z),
+        omega (arith, entries-length (b .receive) s 0 (s .length), c .nbqr),
       );
       is =
-          post-view b′ (q .alike .size ∙ size) l n at (rw (q .queue) (c .1)) (rw (q .queue) inside)
+          post-view b′ (q .alike .size ∙ size) l n at (rw (q .queue) (c .nbqr)) (rw (q .queue) inside)
           ∙ ap (moved (posts l n)) (quiet-view q);
     }

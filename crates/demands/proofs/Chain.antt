@@ -11,9 +11,10 @@ use borrow.Author.Tests.{eqb-false, eq-eqb, ne-eqb}
 use Rattle.ground.specs.Choice.{pick}
 use Rattle.ground.proofs.Choice.{pick-yes, pick-no}
 use Rattle.ground.proofs.Tests.{or-yes, or-neither}
+use Rattle.laws.specs.Sound.{Block}
 use Rattle.demands.specs.Places.{sum, count, blockOf, isBare, walk, noticeAt}
 use Rattle.demands.proofs.Sums.{same, same-self, not-first}
-use Rattle.demands.proofs.Blocks.{Block, next, Only, next-only, bare-only, notice-only}
+use Rattle.demands.proofs.Blocks.{next, Only, next-only, bare-only, notice-only}
 
 -- ---- bare addresses
 

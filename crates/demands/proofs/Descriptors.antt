@@ -9,20 +9,21 @@ use native.Mathlib.Decide.{decLt, ℕ-discrete}
 use lib.Dec.{eqb, ltb, leb}
 use lib.ListN.{length, getD, set, length-set}
 use lib.Seq.{sets, length-sets, getD-set-same, getD-set-other}
-use borrow.Author.Tests.{eqb-true, eq-eqb, ne-eqb, leb-true, leb-false, le-leb, not-true}
+use borrow.Author.Tests.{eqb-true, eq-eqb, ne-eqb, leb-false, le-leb, not-true}
 use Rattle.ground.specs.Choice.{pick}
 use Rattle.ground.specs.Field.{field, flag, without}
 use Rattle.ground.proofs.Choice.{pick-yes, pick-no}
 use Rattle.ground.proofs.Field.{with-below, without-above, flag-with}
 use Rattle.ground.proofs.Lists.{getD-sets-before, getD-sets-after, getD-sets-in}
-use Rattle.ground.proofs.Tests.{and-both, and-no-left, and-no-right, or-first, or-second, or-yes, or-neither, not-no}
+use Rattle.ground.proofs.Tests.{and-both, and-no-left, and-no-right, or-first, or-yes, or-neither, not-no}
 use Rattle.rules.specs.Words.{noteIndex, isAckPkt, reservedBit, offset, isDirectIo, isControlPkt, notifies, goes, metaFlag, metaCount, msgSize, most24}
 use Rattle.rules.specs.Memory.{descriptor, descriptorFirst, descriptorSize, descriptorWord, descriptors, lists}
 use Rattle.rules.specs.Sending.{descriptorAt, storeDescriptor, isDone, isActive, addressOk, messageSizeOk, goRule, started, nextPayload, isLast, afterPacket, markStalled, withStalled, withoutStalled, withDone}
 use Rattle.rules.specs.Writes.{descriptorWordFixed, starts, stops}
 use Rattle.rules.specs.Sound.{descriptorOk}
+use Rattle.laws.specs.Sound.{Direct, Message}
+use Rattle.laws.proofs.Sound.{tests, going}
 use Rattle.demands.specs.Types.{DescriptorIndex, Descriptor}
-use Rattle.demands.proofs.Judged.{tests}
 use Rattle.demands.proofs.Sums.{at-each}
 
 -- Each descriptor that is active keeps the go rule, with a data memory of n bytes.
@@ -203,15 +204,13 @@ module _ (w n : ℕ) (room : offset w + n ≤ most24) where
   after-ack = omega arith
 
 -- The next part of a range lies in it.
-next-range : (direct : Bool) (at size n : ℕ) → 128 ≤ size → addressOk direct at size n ≡ true → addressOk direct (at + 128) (size - 128) n ≡ true
-next-range true at size n h r =
-    let a : at % 4 ≡ 0 = eqb-true (at % 4) 0 (search tests) in
-    let b : 256 ≤ at = leb-true 256 at (search tests) in
-    let c : at + size ≤ 4096 = leb-true (at + size) 4096 (search tests) in
-    and-both (and-both (eq-eqb ((at + 128) % 4) 0 (omega arith)) (le-leb 256 (at + 128) (omega arith))) (le-leb (at + 128 + (size - 128)) 4096 (omega arith))
-next-range false at size n h r =
-    let c : at + size ≤ n = leb-true (at + size) n (or-first (leb (at + size) n) false r refl) in
-    ap (λ (t : Bool). t || false) (le-leb (at + 128 + (size - 128)) n (omega arith))
+next-range : (direct : Bool) (at size n : ℕ) → 128 ≤ size → (direct ≡ false → at + size ≤ n) → (direct ≡ true → Direct at size)
+    → addressOk direct (at + 128) (size - 128) n ≡ true
+next-range true at size n h inside dio =
+    let k : Direct at size = dio refl in
+    and-both (and-both (eq-eqb ((at + 128) % 4) 0 (omega (arith, k .whole))) (le-leb 256 (at + 128) (omega (arith, k .least))))
+    (le-leb (at + 128 + (size - 128)) 4096 (omega (arith, k .most)))
+next-range false at size n h inside dio = ap (λ (t : Bool). t || false) (le-leb (at + 128 + (size - 128)) n (omega (arith, inside refl)))
 
 -- The go rule after a packet that is not the last.
 next-rule : (n : ℕ) (d : Descriptor) → isLast d ≡ false → goRule d (d .control1) (d .bytestogo) n ≡ true
@@ -225,10 +224,9 @@ next-rule n d more rule =
     let plain : isControlPkt c1 ≡ false = or-neither (isControlPkt c1) (leb size 128) more .0 in
     let long : 128 < size = leb-false size 128 (or-neither (isControlPkt c1) (leb size 128) more .1) in
     let payload : pick (isControlPkt c1) 0 (min 128 size) ≡ 128 = pick-no 0 (min 128 size) plain ∙ omega arith in
-    let sizes : messageSizeOk d c1 size n ≡ true = or-second (isControlPkt c1) (messageSizeOk d c1 size n) (search tests) plain in
-    let fours : size % 4 ≡ 0 = eqb-true (size % 4) 0 (search tests) in
-    let fits : offset c0 + size ≤ most24 = leb-true (offset c0 + size) most24 (search tests) in
-    let range : addressOk (isDirectIo c1) (d .msgaddress) size n ≡ true = search tests in
+    let k : Message d c1 size n = going d c1 size n rule .message plain in
+    let fours : size % 4 ≡ 0 = k .words in
+    let fits : offset c0 + size ≤ most24 = k .offset in
     let ack : isAckPkt c0 ≡ false =
     not-true (isAckPkt c0) (or-first (not (isAckPkt c0)) (isControlPkt c1 && not (metaFlag c1)) (search tests depth 20) (and-no-left (isControlPkt c1) _ plain)) in
     let reserved : reservedBit c0 ≡ 0 = eqb-true (reservedBit c0) 0 (search tests depth 20) in
@@ -248,7 +246,7 @@ next-rule n d more rule =
     ∙ and-both (and-both
     (eq-eqb ((size - 128) % 4) 0 (omega arith))
     (le-leb (offset (without 30 2 c0 + 128) + (size - 128)) most24 (omega (arith, after-offset c0 128 room))))
-    (next-range (isDirectIo c1) (d .msgaddress) size n (omega arith) range)))
+    (next-range (isDirectIo c1) (d .msgaddress) size n (omega arith) (k .bytes) (k .direct))))
 
 -- A packet sent.
 pub sent-rules : (send : List ℕ) (e : DescriptorIndex) (n : ℕ) → length send ≡ 1024 → e .0 < descriptors

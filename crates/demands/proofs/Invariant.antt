@@ -11,12 +11,13 @@ use borrow.Author.Tests.{eq-eqb, ne-eqb}
 use Rattle.ground.proofs.Choice.{pick-yes, pick-no}
 use Rattle.rules.specs.Memory.{lists}
 use Rattle.rules.specs.Notices.{blockWords}
+use Rattle.laws.specs.Sound.{Block}
 use Rattle.demands.specs.Types.{ListIndex, Notice}
 use Rattle.demands.specs.Runs.{Act, gives, opens, posts, gets, rests, clears}
 use Rattle.demands.specs.History.{handedBy, onList, postedBy, takenBy}
 use Rattle.demands.specs.Places.{sum, count, blockOf, isBare, noticeAt}
 use Rattle.demands.proofs.Sums.{sum-append, same, same-self, not-first, upd, upd-same, upd-other, at-each, total, total-change, total-none, alone}
-use Rattle.demands.proofs.Blocks.{Block, next, Only, only-sets, next-only, filled-next, filled-notice}
+use Rattle.demands.proofs.Blocks.{next, Only, only-sets, next-only, filled-next, filled-notice}
 use Rattle.demands.proofs.Chain.{Linked, Waiting, waiting-more, linked-none, bare, block-only, linked-only, waiting-only, notices-only, linked-more, Tip, tip-aligned, tip-block, sum-none, sum-end, end-apart}
 use Rattle.demands.proofs.View.{View, given, opened, hung, readOn, moved, May}
 

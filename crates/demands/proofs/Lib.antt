@@ -2,10 +2,6 @@
 -- ---- a call: what its verdict says, and how it answers
 pub mod Access
 pub mod Reset
-pub mod Judged
-pub mod Choices
-pub mod Verdicts
-pub mod Written
 pub mod Answers
 -- ---- packets
 pub mod Packets

@@ -15,7 +15,7 @@ use Rattle.ground.proofs.Bytes.{Bytes}
 use Rattle.ground.proofs.Tests.{and-left, and-right, or-first, or-second}
 use Rattle.rules.specs.Checksum.{bitStep, bitSteps, byteStep, checkFrom}
 use Rattle.rules.specs.Packet.{checkWord, bodyCheckBytes, lengthOk}
-use Rattle.demands.proofs.Judged.{tests}
+use Rattle.laws.proofs.Sound.{tests}
 
 -- ---- checks
 

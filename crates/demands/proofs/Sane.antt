@@ -12,9 +12,10 @@ use borrow.Author.Tests.{eqb-false}
 use Rattle.ground.proofs.Tests.{or-neither}
 use Rattle.rules.specs.Memory.{lists}
 use Rattle.rules.specs.Notices.{blockWords}
+use Rattle.laws.specs.Sound.{Block}
 use Rattle.demands.specs.Runs.{Act, gives, opens, posts, gets, rests, clears}
 use Rattle.demands.proofs.Sums.{upd, upd-same, upd-other, at-each}
-use Rattle.demands.proofs.Blocks.{Block, next, Only, only-sets, next-only, filled-next}
+use Rattle.demands.proofs.Blocks.{next, Only, only-sets, next-only, filled-next}
 use Rattle.demands.proofs.Chain.{Tip, tip-block}
 use Rattle.demands.proofs.View.{View, moved, May}
 

@@ -2,40 +2,40 @@
 use Prim.Native.Nat.{ℕ, _+_, _<_, _≤_}
 use mathlib.Core.Path.{_≡_, refl, sym, ap, _∙_}
 use mathlib.Core.Logic.{_≢_}
-use mathlib.Core.Bool.{true}
 use mathlib.Core.List.{List, [], _∷_, _++_}
 use native.Mathlib.Omega.{arith}
-use lib.Dec.{eqb}
 use lib.ListN.{length, getD, set, drop, length-set, List·getD-append}
 use lib.Seq.{getD-set-same, getD-set-other}
-use borrow.Author.Tests.{ne-eqb}
 use Rattle.ground.specs.Lists.{over}
 use Rattle.ground.proofs.Choice.{pick-holds}
 use Rattle.ground.proofs.Lists.{length-part, getD-sets-after}
-use Rattle.ground.proofs.Tests.{and-left, and-right, or-second}
+use Rattle.ground.proofs.Tests.{and-left}
 use Rattle.rules.specs.Memory.{Machine, list, block, lists, headWord, tokenWord, placeWord, slotFirst, slotWord}
 use Rattle.rules.specs.Saved.{withLastSender}
 use Rattle.rules.specs.Board.{Board, board, onReceive}
 use Rattle.rules.specs.Notices.{placeOf, pushNbqr, canPostAll, postAll}
 use Rattle.rules.specs.Slots.{slotWords, storeSlot}
 use Rattle.rules.specs.Receipt.{slotAfter, receiptPosting, hasRoomFor, slotStored, aqrEntry, aqrStored, countedBy, receivedOnBoard, received}
-use Rattle.rules.specs.Sending.{descriptorAt, isActive, isReady, sendPosting}
+use Rattle.rules.specs.Sending.{descriptorAt, sendPosting}
 use Rattle.rules.specs.Registers.{decode, stepped, shownItself}
 use Rattle.rules.specs.Writes.{bitsCleared, numberSet, receiveStored}
 use Rattle.rules.specs.Calls.{Call, writes, reads, receives, sends, takes, unknown, perform, unknownCall, judgeRead, readDone, actRead, readCall, judgeWrite, writeDone, actWrite, writeCall, judgeReceive, actReceive, receiveCall, judgeSend, sent, actSend, sendCall, judgeTake, wordsOf, actTake, takeCall}
-use Rattle.demands.specs.Types.{Queue, Saved, SlotIndex, ListIndex, BlockAddress, Packet, Slot, Descriptor, Number, Mapped, Reach, ReceiveStore, Writing, Receipt, Receiving, Sending, Taking}
+use Rattle.laws.specs.Sound.{Block}
+use Rattle.laws.specs.Receipts.{OfReceipt}
+use Rattle.laws.specs.Verdicts.{OfReceive, OfSend, OfTake}
+use Rattle.laws.specs.Writing.{OfReceiveStore, OfWrite}
+use Rattle.laws.proofs.Verdicts.{of-receive, of-send, of-take}
+use Rattle.laws.proofs.Writing.{of-write}
+use Rattle.demands.specs.Types.{Queue, Saved, SlotIndex, ListIndex, Packet, Slot, Descriptor, Number, Mapped, Reach, ReceiveStore, Writing, Receipt, Receiving, Sending, Taking}
 use Rattle.demands.specs.Runs.{rests, clears, storeAct, writingAct, receivingAct, sendingAct, noticeIn, takingAct, act}
 use Rattle.demands.specs.Places.{noticeAt}
 use Rattle.demands.proofs.Access.{after-step, after-shown}
-use Rattle.demands.proofs.Blocks.{Block, is-block, next}
+use Rattle.demands.proofs.Blocks.{next}
 use Rattle.demands.proofs.Chain.{not-bare}
 use Rattle.demands.proofs.View.{View, opened}
 use Rattle.demands.proofs.Ring.{entry, entries-same}
 use Rattle.demands.proofs.Sight.{below-at, below-upd, seen, view, alike-then, alike-set, alike-slots, seen-alike, Quiet, quiet-same, quiet-then, quiet-aqr}
-use Rattle.demands.proofs.Choices.{OfReceipt, of-receipt, receipt-listed, found-ready, send-listed}
 use Rattle.demands.proofs.Boards.{Step, heads, places, push-view, take-view, post-step}
-use Rattle.demands.proofs.Verdicts.{OfReceive, of-receive, OfSend, of-send, OfTake, of-take}
-use Rattle.demands.proofs.Written.{OfReceiveStore, OfWrite, of-write}
 
 -- A call that leaves the view.
 rest : {v v′ : View} → v′ ≡ v → Step rests v v′
@@ -112,7 +112,7 @@ unfolding actWrite writeDone writingAct pushNbqr
 write-step m r v (Writing.No why) h d = rest refl
 write-step m r v Writing.Reset h d = absurd (d refl)
 write-step m r v (Writing.Sets n) h d = rest (rw (step-queue r (numberSet n v (m .saved)), number-queue n v (m .saved)))
-write-step m r v (Writing.Gives b) h d = rw (step-queue r _) (record { may = h .2; is = push-view (board (m .saved) (m .receive) (m .notices) 0) (h .0) b (h .1) })
+write-step m r v (Writing.Gives b) h d = rw (step-queue r _) (record { may = h .free; is = push-view (board (m .saved) (m .receive) (m .notices) 0) (h .size) b (h .room) })
 write-step m r v (Writing.StoresSend w) h d = rest (rw (step-queue r (m .saved)))
 write-step m r v (Writing.StoresReceive w) h d = rw (step-queue r (m .saved)) (store-step m w v (h .0) (h .1))
 
@@ -155,32 +155,27 @@ receive-step : (m : Machine) (packet : List ℕ) (r : Receiving) → OfReceive m
 unfolding receivingAct actReceive received receivedOnBoard hasRoomFor
 receive-step m packet (Receiving.No why) h = rest refl
 receive-step m packet (Receiving.ComesTo p r) h =
-    let n : ℕ = length (m .bytes) in
     let b : Board = board (m .saved) (m .receive) (m .notices) 0 in
     let b₁ : Board = onReceive (slotStored p r) b in
     let b₂ : Board = aqrStored p r b₁ in
-    let o : OfReceipt (m .saved) (m .receive) n p r = rw (h .2, h .1) (of-receipt (m .saved) (m .receive) n packet) in
     rw (counted-queue r (postAll (receiptPosting p r) b₂ .saved))
     (post-step (receiptPosting p r) b b₂
-    (quiet-then (slot-quiet n p r b o (h .0 .slots)) (aqr-quiet p r b₁))
-    (receipt-listed (m .saved) (m .receive) n p r o)
-    (and-left (canPostAll (m .saved) (m .receive) (receiptPosting p r)) _ (h .3)) (h .0 .queue) (h .0 .receive))
+    (quiet-then (slot-quiet (length (m .bytes)) p r b (h .says) (h .sound .ranges .slots)) (aqr-quiet p r b₁))
+    (h .listed)
+    (and-left (canPostAll (m .saved) (m .receive) (receiptPosting p r)) _ (h .room)) (h .sound .nbqr .place) (h .sound .sized .receive))
 
 -- ---- sends
 
 -- The notice is posted once the descriptor has moved on, which is not shown.
-send-step : (m : Machine) (room : List ℕ) (s : Sending) → OfSend m s → Step (sendingAct m s) (view m) (view (actSend m room s .machine))
-unfolding sendingAct actSend sent isReady
+send-step : (m : Machine) (room : List ℕ) (s : Sending) → OfSend m (length room) s → Step (sendingAct m s) (view m) (view (actSend m room s .machine))
+unfolding sendingAct actSend sent
 send-step m room (Sending.No why) h = rest refl
 send-step m room (Sending.Sends i) h =
     let d : Descriptor = descriptorAt (m .send) i in
-    let f = found-ready (m .saved) (m .send) (m .receive) (h .1) in
-    let active : isActive d ≡ true = and-left (isActive d) _ (f .0) in
     let b : Board = board (m .saved) (m .receive) (m .notices) 0 in
     let b₁ : Board = board (withLastSender (i .0) (m .saved)) (m .receive) (m .notices) 0 in
     post-step (sendPosting d) b b₁ (record { queue = refl; alike = quiet-same b .alike; token = λ l h. refl; notices = refl })
-    (send-listed (length (m .bytes)) d (h .0 .goes (i .0) (f .1) active))
-    (and-right (isActive d) _ (f .0)) (h .0 .queue) (h .0 .receive)
+    (h .listed) (h .posts) (h .sound .nbqr .place) (h .sound .sized .receive)
 send-step m room (Sending.Waits i) h = rest refl
 
 -- ---- takes
@@ -200,26 +195,22 @@ notice-over p room e =
     one j h = List·getD-append p (drop (length p) room) 0 j (omega arith)
 
 -- A take.
-take-step : (m : Machine) (l : ℕ) (room : List ℕ) (t : Taking) → OfTake m l t
+take-step : (m : Machine) (room : List ℕ) (t : Taking) → OfTake m (length room) t
     → Step (takingAct (actTake m room t .room) t) (view m) (view (actTake m room t .machine))
 unfolding takingAct actTake noticeAt
-take-step m l room (Taking.No why) h = rest refl
-take-step m l room (Taking.Takes i b n) h =
-    let p : ℕ = placeOf (m .receive) (list l) in
-    let lt : l < lists = h .1 in
-    let e : i ≡ list l = h .5 in
-    let place : b ≡ block p = h .6 ∙ ap (λ (x : ListIndex). block (placeOf (m .receive) x)) e in
-    let nz : p ≢ 0 = λ z. h .3 (ap (λ (x : BlockAddress). x .0) place ∙ z) in
-    let nx : next (m .notices) p ≢ 0 = λ z. h .4 (ap (λ (x : BlockAddress). x .0) (h .7) ∙ ap (λ (x : BlockAddress). next (m .notices) (x .0)) place ∙ z) in
-    let k : Block (length (m .notices)) p = is-block (length (m .notices)) p (or-second (eqb p 0) _ (h .0 .place l lt) (ne-eqb p 0 nz)) in
-    let at : places (m .receive) l ≡ view m .place l = sym (below-at (places (m .receive)) l lt) in
-    rw (h .7, place, e) (record {
+take-step m room (Taking.No why) h = rest refl
+take-step m room (Taking.Takes l b n) h =
+    let p : ℕ = placeOf (m .receive) l in
+    let k : Block (length (m .notices)) p = rw (h .place) at (h .here) in
+    let onward : Block (length (m .notices)) (next (m .notices) p) = rw (h .next, h .place) at (h .onward) in
+    let at : p ≡ view m .place (l .0) = sym (below-at (places (m .receive)) (l .0) (h .low)) in
+    rw (h .next, h .place) (record {
       may = (
-        lt,
+        h .low,
         notice-over (wordsOf (m .notices) (block p)) room (length-part _ 8 (m .notices) (k .inside)) ∙ ap (noticeAt (m .notices)) at,
-        rw (← at) (not-bare (m .notices) p nz nx),
+        rw (← at) (not-bare (m .notices) p (λ z. omega (arith, k .low)) (λ z. omega (arith, onward .low))),
       );
-      is = take-view (list l) (board (m .saved) (m .receive) (m .notices) 0) (h .0 .receive) lt (h .2);
+      is = take-view l (board (m .saved) (m .receive) (m .notices) 0) (h .sound .sized .receive) (h .low) (h .queue);
     })
 
 -- ---- any call
@@ -231,5 +222,5 @@ call-step (writes a v) m d = write-step m (decode a) v (judgeWrite m a v) (of-wr
 call-step (reads a) m d = rest (read-step m (decode a) (judgeRead m (decode a)))
 call-step (receives packet) m d = receive-step m packet (judgeReceive m packet) (of-receive m packet)
 call-step (sends ready room) m d = send-step m room (judgeSend m ready (length room)) (of-send m ready (length room))
-call-step (takes l room) m d = take-step m l room (judgeTake m l (length room)) (of-take m l (length room))
+call-step (takes l room) m d = take-step m room (judgeTake m l (length room)) (of-take m l (length room))
 call-step unknown m d = rest refl

@@ -15,8 +15,8 @@ use Rattle.rules.specs.Packet.{flagged, payloadFrom, packetOf, isPacket, fields
 use Rattle.rules.specs.Receipt.{receiptOf}
 use Rattle.rules.specs.Replies.{replyNumber}
 use Rattle.rules.specs.Calls.{receives, perform, gate, judgeReceive, receiptReply, actReceive, receiveCall}
+use Rattle.laws.proofs.Sound.{tests}
 use Rattle.demands.specs.Types.{Saved, Receipt, Receiving}
-use Rattle.demands.proofs.Judged.{tests}
 use Rattle.demands.proofs.Packets.{Long, long}
 
 module _ (s : List ℕ) where

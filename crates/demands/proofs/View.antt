@@ -8,11 +8,12 @@ use lib.ListN.{length, getD, set, drop}
 use lib.Seq.{sets}
 use Rattle.rules.specs.Memory.{lists}
 use Rattle.rules.specs.Notices.{blockWords}
+use Rattle.laws.specs.Sound.{Block}
 use Rattle.demands.specs.Types.{Notice}
 use Rattle.demands.specs.Runs.{Act, gives, opens, posts, gets, rests, clears}
 use Rattle.demands.specs.Places.{isBare, noticeAt}
 use Rattle.demands.proofs.Sums.{upd}
-use Rattle.demands.proofs.Blocks.{Block, next}
+use Rattle.demands.proofs.Blocks.{next}
 
 -- Notice memory, the head and the reader's place of each list, and the waiting blocks, the oldest first.
 pub record View : Type 0 where

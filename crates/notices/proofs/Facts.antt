@@ -1,34 +1,32 @@
 -- What a posting and a take ask, from what was judged; and which stores a posting does not mind. Assumes nothing.
 use mathlib.Core.Path.{_≡_, refl, ap, _∙_}
-use mathlib.Core.Bool.{true, not, _||_}
+use mathlib.Core.Bool.{true}
 use mathlib.Core.List.{List, []}
 use Prim.Native.Nat.{ℕ, _+_, _<_, _≤_}
 use native.Mathlib.Omega.{arith}
-use borrow.Author.Tests.{ltb-true, leb-true, not-true}
-use lib.Dec.{eqb, ltb}
+use borrow.Author.Tests.{ltb-true}
 use lib.ListN.{length, set, length-set}
 use lib.Seq.{sets, length-sets, getD-set-other}
-use Rattle.ground.proofs.Choice.{went}
 use Rattle.ground.proofs.Lists.{getD-sets-after}
-use Rattle.ground.proofs.Tests.{and-left, and-right, or-second, not-no}
 use Rattle.rules.specs.declared.BlockAddress.{BlockAddress}
 use Rattle.rules.specs.declared.ListIndex.{ListIndex}
-use Rattle.rules.specs.declared.Notice.{Notice}
 use Rattle.rules.specs.declared.Posting.{Posting}
 use Rattle.rules.specs.declared.Queue.{Queue}
-use Rattle.rules.specs.declared.Refusal.{Refusal}
 use Rattle.rules.specs.declared.Saved.{Saved}
 use Rattle.rules.specs.declared.Taking.{Taking}
-use Rattle.rules.specs.Memory.{Machine, receiveSize, lists, list, listsFrom, aqrFrom, block}
+use Rattle.rules.specs.Memory.{Machine, receiveSize, lists, listsFrom, aqrFrom, isBlockOrNone}
 use Rattle.rules.specs.Queues.{hasRoom, entryWord}
 use Rattle.rules.specs.Board.{Board}
-use Rattle.rules.specs.Notices.{headOf, tokenOf, enqueues, placeOf, canPost, canPostAll, pushAqr}
+use Rattle.rules.specs.Notices.{headOf, tokenOf, canPost, canPostAll, pushAqr}
 use Rattle.rules.specs.Calls.{judgeTake}
-use Rattle.sound.specs.Facts.{Ring, Sound}
-use Rattle.sound.proofs.Facts.{set-block}
-use Rattle.sound.proofs.Passing.{past-gate}
+use Rattle.laws.specs.Sound.{Ring}
+use Rattle.laws.specs.Postings.{Listed}
+use Rattle.laws.specs.Verdicts.{ReadersBlock}
+use Rattle.laws.proofs.Sound.{set-block}
+use Rattle.laws.proofs.Postings.{can-post}
+use Rattle.laws.proofs.Verdicts.{of-take}
 use Rattle.notices.specs.declared.Step.{Step}
-use Rattle.notices.specs.Steps.{Pushable, Does, Postable, Listed, PostableAll, TakeableTo}
+use Rattle.notices.specs.Steps.{Pushable, Does, Postable, PostableAll, TakeableTo}
 
 -- ---- from judging
 
@@ -36,63 +34,39 @@ use Rattle.notices.specs.Steps.{Pushable, Does, Postable, Listed, Postab
 pub pushable : (q : Queue) (receive : List ℕ) → Ring q → length receive ≡ receiveSize → hasRoom q ≡ true → Pushable q receive
 pushable q receive ring size h = record { size = size; place = ring .place; room = ltb-true _ _ h }
 
--- A notice on a list is on that list alone.
-pub on-list : {l : ListIndex} {m : Notice} → l .0 < lists → Listed (Posting.On l m)
-on-list {l} low = record { low = λ k m e. let same : l ≡ k = cc in rw (← same) low }
-
--- No notice is on none.
-pub on-none : Listed Posting.Silent
-on-none = record { low = λ l m e. let z : _≡_ {A = ℕ} 0 1 = cc in absurd (omega arith) }
-
-module _ (s : Saved) (send receive : List ℕ) (dataLength n : ℕ) (sound : Sound s send receive dataLength n) where
-  -- A list of a sound machine that can be posted to.
-  pub postable : (l : ListIndex) → l .0 < lists → canPost s receive l ≡ true → Postable s receive n l
-  unfolding canPost
-  postable l low h =
-      let set : not (eqb (headOf receive l) 0) ≡ true = search (and-left, and-right) depth 20 in
-      let room : (not (enqueues (tokenOf receive l)) || hasRoom (s .nqr)) ≡ true = search (and-left, and-right) depth 20 in
+-- Both queues of a posting lie in their words.
+module _ (s : Saved) (receive : List ℕ) (n : ℕ) (size : length receive ≡ receiveSize) (nqr : Ring (s .nqr)) (nbqr : Ring (s .nbqr)) where
+  -- A list that can be posted to, where its head is a block or none.
+  pub postable : (l : ListIndex) → l .0 < lists → isBlockOrNone n (headOf receive l) ≡ true → canPost s receive l ≡ true → Postable s receive n l
+  postable l low head h =
+      let can = can-post s receive l h in
       record {
-        size = sound .sized .receive;
+        size = size;
         low = low;
-        head = set-block n (headOf receive l) (sound .heads l low) (not-true _ set) .inside;
-        nbqr = sound .nbqr .place;
-        nqr = sound .nqr .place;
-        room = λ e. ltb-true _ _ (or-second (not (enqueues (tokenOf receive l))) (hasRoom (s .nqr)) room (not-no e));
+        head = set-block n (headOf receive l) head (can .head) .inside;
+        nbqr = nbqr .place;
+        nqr = nqr .place;
+        room = can .nqr;
       }
 
-  -- What a call has to post.
-  pub postable-all : (p : Posting) → Listed p → canPostAll s receive p ≡ true → PostableAll s receive n p
+  -- What a call has to post, where every head is.
+  pub postable-all : (p : Posting) → ((l : ListIndex) → l .0 < lists → isBlockOrNone n (headOf receive l) ≡ true) → Listed p → canPostAll s receive p ≡ true
+      → PostableAll s receive n p
   unfolding canPostAll
-  postable-all p listed h = record { on = λ l m e. postable l (listed .low l m e) (rw e at h) }
-
--- A refusal is no take.
-takes-not : {why : Refusal} {l : ListIndex} {b next : BlockAddress} → Taking.No why ≡ Taking.Takes l b next → ⊥
-takes-not e = let z : _≡_ {A = ℕ} 0 1 = cc in omega arith
+  postable-all p heads listed h = record { on = λ l m e. let low : l .0 < lists = listed .low l m e in postable l low (heads l low) (rw e at h) }
 
 -- A take that was judged to go.
 pub takeable : (m : Machine) (k room : ℕ) {l : ListIndex} {b next : BlockAddress} → judgeTake m k room ≡ Taking.Takes l b next
     → TakeableTo (m .saved) (m .receive) (length (m .notices)) l b room
-unfolding judgeTake
-takeable m k room {l} {b} h =
-    let place : ℕ = placeOf (m .receive) (list k) in
-    let past = past-gate Taking.No m _ (λ why. takes-not) h in
-    let sound = past .0 in
-    let below = went (ltb k lists) takes-not (past .1) in
-    let long = went _ takes-not (below .1) in
-    let set = went (not (eqb place 0)) takes-not (long .1) in
-    let full = went _ takes-not (set .1) in
-    let inside = went _ takes-not (full .1) in
-    let free = went _ takes-not (inside .1) in
-    let low : k < lists = ltb-true _ _ (below .0) in
-    let same : l ≡ list k = cc in
-    let taken : b ≡ block place = cc in
+takeable m k room {l} {b} {next} h =
+    let t : ReadersBlock m room l b next = rw h at (of-take m k room) in
     record {
       block = record {
-        low = rw same low;
-        inside = rw taken (set-block (length (m .notices)) place (sound .places (list k) low) (not-true _ (set .0)) .inside);
-        push = pushable (m .saved .nbqr) (m .receive) (sound .nbqr) (sound .sized .receive) (free .0);
+        low = t .low;
+        inside = t .here .inside;
+        push = record { size = t .sound .sized .receive; place = t .sound .nbqr .place; room = t .queue };
       };
-      room = leb-true _ _ (long .0);
+      room = t .long;
     }
 
 -- ---- which stores a posting does not mind

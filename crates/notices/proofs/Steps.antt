@@ -6,7 +6,6 @@ use mathlib.Core.List.{List}
 use Prim.Native.Nat.{ℕ, _+_, _-_, _<_, _≤_}
 use native.Mathlib.Nat.{add-zero}
 use native.Mathlib.Omega.{arith}
-use borrow.Author.Tests.{ne-eqb}
 use lib.ListN.{length, getD, set, take, drop, length-set}
 use lib.Seq.{sets}
 use Rattle.ground.specs.Lists.{over}
@@ -21,14 +20,14 @@ use Rattle.rules.specs.declared.queues.Removal.{Removal}
 use Rattle.rules.specs.declared.Reply.{Reply}
 use Rattle.rules.specs.declared.Taking.{Taking}
 use Rattle.rules.specs.declared.Verdict.{Verdict}
-use Rattle.rules.specs.Memory.{block, blockFirst, headWord, placeWord, nbqrFrom}
+use Rattle.rules.specs.Memory.{block, blockFirst, headWord, tokenWord, placeWord, nbqrFrom}
 use Rattle.rules.specs.Saved.{withNbqr}
 use Rattle.rules.specs.Queues.{oldest, removed}
 use Rattle.rules.specs.Board.{Board}
 use Rattle.rules.specs.Notices.{blockWords, enqueues, token, placeOf, emptyInterrupt, fillHead, pushNqr, enqueueToken, post, postAll, takeBlock}
 use Rattle.rules.specs.Calls.{wordsOf, actTake}
 use Rattle.sound.specs.Gated.{Gated}
-use Rattle.sound.proofs.Facts.{set-block}
+use Rattle.laws.proofs.Sound.{set-block}
 use Rattle.sound.proofs.Passing.{gated-sound}
 use Rattle.notices.specs.declared.Step.{Step}
 use Rattle.notices.specs.Steps.{Pushable, Returns, Does, Posts, Enqueues, Postable, Takes, Acts}
@@ -82,10 +81,10 @@ filled l n s receive notices notices₂ head more o e out words last =
 
 -- ---- the posting
 
-module _ (l : ListIndex) (n : Notice) {s : Saved} {receive notices receive₂ notices₂ : List ℕ} {head : ℕ} {h : Step} (e : head ≡ headWord l)
+module _ (l : ListIndex) (n : Notice) {s : Saved} {receive notices receive₂ notices₂ : List ℕ} {token : ℕ} {h : Step} (e : token ≡ tokenWord l)
     (fill : Posts (fillHead l n) 4 s receive notices h receive₂ notices₂) where
   -- Filling the head leaves NQR as it was.
-  pub enqueue-asks : Postable s receive (length notices) l → Enqueues (getD receive (head + 1) 0) (h .saved) receive₂
+  pub enqueue-asks : Postable s receive (length notices) l → Enqueues (getD receive token 0) (h .saved) receive₂
   unfolding fillHead
   enqueue-asks p =
       let nqr : h .saved .nqr ≡ s .nqr = ap (λ (b : Board). b .saved .nqr) (fill .whole 0) in
@@ -93,7 +92,7 @@ module _ (l : ListIndex) (n : Notice) {s : Saved} {receive notices receive₂ no
       record { size = size ∙ p .size; place = rw nqr (p .nqr); room = rw (nqr, e) (p .room) }
 
   -- The head, then the token.
-  pub posted : {receive₃ : List ℕ} {t : Step} → Does (enqueueToken (getD receive (head + 1) 0)) 2 (h .saved) receive₂ t receive₃
+  pub posted : {receive₃ : List ℕ} {t : Step} → Does (enqueueToken (getD receive token 0)) 2 (h .saved) receive₂ t receive₃
       → Posts (post l n) 6 s receive notices (record { saved = t .saved; interrupts = h .interrupts + t .interrupts }) receive₃ notices₂
   unfolding post
   posted {t = t} d =
@@ -128,7 +127,7 @@ module _ (s : Saved) (send receive bytes notices : List ℕ) {v : Verdict} (told
   pub next-asks : (l : ListIndex) (place : ℕ) → l .0 < 64 → place ≡ placeOf receive l → place ≢ 0 → blockFirst (block place) + 8 ≤ length notices
   next-asks l place low e filled =
       let sound = gated-sound s send receive bytes notices told go in
-      set-block (length notices) place (rw e (sound .places l low)) (ne-eqb _ _ filled) .inside
+      set-block (length notices) place (rw e (sound .places l low)) filled .inside
 
 -- The place, the block's next, and the block on NBQR.
 pub taken : (l : ListIndex) (b next : BlockAddress) (s s₂ : Saved) (receive receive₂ notices : List ℕ) (place first : ℕ) → place ≡ placeWord l

@@ -69,11 +69,7 @@ pub record Postable (s : Saved) (receive : List ℕ) (n : ℕ) (l : ListIndex) :
   pub nqr : s .nqr .place < queueSize
   pub room : enqueues (tokenOf receive l) ≡ true → s .nqr .length < queueSize
 
--- What a call has to post, if anything, is on one of the 64 lists.
-pub record Listed (p : Posting) : Type 0 where
-  pub low : (l : ListIndex) (m : Notice) → p ≡ Posting.On l m → l .0 < lists
-
--- It can be posted.
+-- What a call has to post, if anything, can be posted.
 pub record PostableAll (s : Saved) (receive : List ℕ) (n : ℕ) (p : Posting) : Type 0 where
   pub on : (l : ListIndex) (m : Notice) → p ≡ Posting.On l m → Postable s receive n l
 

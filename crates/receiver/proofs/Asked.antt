@@ -22,8 +22,8 @@ use Rattle.rules.specs.Saved.{ownIncarnation, ownNode}
 use Rattle.rules.specs.Packet.{headerChecks, fieldsOk, bodyChecks}
 use Rattle.rules.specs.Slots.{slotAt, slotOk, within24}
 use Rattle.rules.specs.Receipt.{newBytesToGo, receiptOf}
+use Rattle.laws.proofs.Receipts.{usable}
 use Rattle.receiver.specs.Judging.{Judgeable, Addressed, Counting, Decides}
-use Rattle.receiver.proofs.Table.{usable}
 use Rattle.receiver.proofs.Receipts.{payload-few}
 
 -- The steps before the slot's, from what the code tested.

@@ -1,6 +1,5 @@
 -- Laws of receipts. Assumes nothing.
 pub mod BytesToGo
-pub mod Table
 pub mod Receipts
 pub mod Asked
 pub mod Rooms

@@ -18,7 +18,7 @@ use Rattle.rules.specs.Receipt.{receiptPosting, needsAqr, hasRoomFor}
 use Rattle.packet.proofs.Reading.{sized}
 use Rattle.sound.specs.Gated.{Gated}
 use Rattle.sound.proofs.Passing.{gated-sound}
-use Rattle.notices.specs.Steps.{Listed}
+use Rattle.laws.specs.Postings.{Listed}
 use Rattle.receiver.specs.Judging.{Judgeable, Answerable}
 
 -- A posting asks what its receipt gives.

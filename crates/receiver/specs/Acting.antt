@@ -5,7 +5,6 @@ use mathlib.Core.Bool.{true}
 use mathlib.Core.List.{List, []}
 use Prim.Native.Nat.{ℕ, _+_, _^_, _<_, _≤_}
 use lib.ListN.{length}
-use Rattle.ground.specs.Signed.{signed}
 use Rattle.rules.specs.declared.Saved.{Saved}
 use Rattle.rules.specs.declared.SlotIndex.{SlotIndex}
 use Rattle.rules.specs.declared.ListIndex.{ListIndex}
@@ -14,26 +13,19 @@ use Rattle.rules.specs.declared.Packet.{Packet}
 use Rattle.rules.specs.declared.Receipt.{Receipt}
 use Rattle.rules.specs.declared.Receiving.{Receiving}
 use Rattle.rules.specs.declared.Answer.{Answer}
-use Rattle.rules.specs.Words.{most24, offset, metaPart}
+use Rattle.rules.specs.Words.{most24, offset}
 use Rattle.rules.specs.Memory.{machine, receiveSize, slotsMost}
 use Rattle.rules.specs.Board.{Board, onReceive}
 use Rattle.rules.specs.Packet.{packetMost}
-use Rattle.rules.specs.Slots.{within24}
 use Rattle.rules.specs.Receipt.{receiptPosting, needsAqr, slotStored, aqrStored}
 use Rattle.rules.specs.Replies.{answered}
 use Rattle.rules.specs.Calls.{actReceive}
+use Rattle.laws.specs.Receipts.{Usable}
 use Rattle.packet.specs.Packet.{Landing}
 use Rattle.notices.specs.declared.Step.{Step}
 use Rattle.notices.specs.Steps.{Pushable, Does, Postable, PostableAll}
 
 -- ---- what acting asks
-
--- A slot whose words keep what "Valid needs" says of them, as far as counts and notices are made of them.
-pub record Usable (v : Slot) : Type 0 where
-  pub bytestogo : within24 (signed (v .bytestogo)) ≡ true
-  pub msgsize : v .msgsize ≤ most24
-  pub msgoffset : v .msgoffset ≤ most24
-  pub metaword : v .metaword ≡ metaPart (v .metaword)
 
 -- A packet, and the slot of the table that it lands in.
 pub record Meeting (i : SlotIndex) (p : Packet) (v : Slot) : Type 0 where

@@ -17,7 +17,7 @@ use Rattle.rules.specs.Packet.{packetMost, packetOf, headerChecks, fieldsOk}
 use Rattle.rules.specs.Slots.{slotAt, slotOk}
 use Rattle.rules.specs.Receipt.{receiptOf, receiptPosting}
 use Rattle.packet.specs.Packet.{Sized}
-use Rattle.notices.specs.Steps.{Listed}
+use Rattle.laws.specs.Postings.{Listed}
 use Rattle.receiver.specs.ToGo.{Countable}
 use Rattle.receiver.specs.Acting.{Known}
 

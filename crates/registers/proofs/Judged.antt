@@ -3,13 +3,12 @@ use mathlib.Core.Path.{_≡_, refl, sym, ap, _∙_}
 use mathlib.Core.Bool.{Bool, true, false, not, _&&_, _||_}
 use mathlib.Core.List.{List}
 use mathlib.Core.Logic.{_≢_}
-use Prim.Native.Nat.{ℕ, _+_, _-_, _/_, _%_, _<_, _≤_}
-use native.Mathlib.Omega.{arith}
-use borrow.Author.Tests.{ltb-true, leb-false, eq-eqb, ne-eqb}
-use lib.Dec.{eqb, ltb, leb}
+use Prim.Native.Nat.{ℕ, _+_, _<_, _≤_}
+use borrow.Author.Tests.{eq-eqb, ne-eqb}
+use lib.Dec.{eqb}
 use lib.ListN.{length, getD}
 use Rattle.ground.specs.Choice.{pick}
-use Rattle.ground.proofs.Choice.{pick-by, pick-yes, pick-no, go-on, stop}
+use Rattle.ground.proofs.Choice.{pick-yes, pick-no, go-on, stop}
 use Rattle.ground.proofs.Tests.{flag-no, flag-yes, not-yes, not-no, not-both}
 use Rattle.rules.specs.declared.Descriptor.{Descriptor}
 use Rattle.rules.specs.declared.DescriptorIndex.{DescriptorIndex}
@@ -32,13 +31,11 @@ use Rattle.rules.specs.Writes.{descriptorWordFixed, slotWordFixed, starts, stop
 use Rattle.rules.specs.Registers.{decode, reach}
 use Rattle.rules.specs.Sound.{soundOk}
 use Rattle.rules.specs.Calls.{isReset, judgeWrite}
-use Rattle.sound.specs.Facts.{Sized}
-use Rattle.sound.proofs.Facts.{is-block, sized}
+use Rattle.laws.specs.Sound.{Sized}
+use Rattle.laws.specs.Writing.{OfSendPart}
+use Rattle.laws.proofs.Sound.{is-block, sized}
+use Rattle.laws.proofs.Writing.{send-part, receive-part}
 use Rattle.registers.specs.Writing.{Rams, Judges}
-
--- Two different parts are not the same.
-pub clash : {A : Type 0} → _≡_ {A = ℕ} 0 1 → A
-clash e = absurd (omega arith)
 
 -- ---- a free block
 
@@ -99,26 +96,10 @@ pub by-words : (send : List ℕ) (n : ℕ) (d : DescriptorIndex) (k v : ℕ) {wo
     → r ≡ judgeSendWord send n (SendPart.OfDescriptor d k) v
 by-words send n d k v e h = h send e
 
--- What a part of Send RAM says of the word.
-abbrev DescriptorLow : SendPart → Type 0
-DescriptorLow p = (d : DescriptorIndex) (k : ℕ) → p ≡ SendPart.OfDescriptor d k → (d .0 < 4) × (k < 16)
-
--- The four descriptors stand in the first 64 words.
-pub descriptor-low : (i : ℕ) → DescriptorLow (sendPart i)
-unfolding sendPart
-descriptor-low i =
-    pick-by DescriptorLow (ltb i 64)
-    (λ h d k e.
-    let low : i < 64 = ltb-true _ _ h in
-    let first : d .0 ≡ i / 16 = cc in
-    let word : k ≡ i % 16 = cc in
-    (omega arith, omega arith))
-    (λ h d k e. clash cc)
-
 module _ (send : List ℕ) (n i v : ℕ) {p : SendPart} (e : p ≡ sendPart i) where
   -- The part is a descriptor's word.
   pub descriptor-asks : (d : DescriptorIndex) (k : ℕ) → p ≡ SendPart.OfDescriptor d k → d .0 < 4
-  descriptor-asks d k h = descriptor-low i d k (sym e ∙ h) .0
+  descriptor-asks d k h = let part : OfSendPart i (SendPart.OfDescriptor d k) = rw (sym e ∙ h) at (send-part i) in part .0
 
   pub by-descriptor : (d : DescriptorIndex) (k : ℕ) {r : Writing} → p ≡ SendPart.OfDescriptor d k → r ≡ judgeSendWord send n (SendPart.OfDescriptor d k) v
       → r ≡ judgeSendWord send n (sendPart i) v
@@ -157,29 +138,6 @@ module _ (receive notices : List ℕ) (l : ListIndex) (v : ℕ) {at : ℕ} (e : 
     unfolding judgeReceiveWord
     head-taken h = go-on _ (eq-eqb (headOf receive l) 0 (rw e at zero)) (go-on _ (flag-yes told h) refl)
 
--- What a part of Receive RAM says of the word.
-pub record ReceiveLow (p : ReceivePart) : Type 0 where
-  pub slot : (j : SlotIndex) (k : ℕ) → p ≡ ReceivePart.OfSlot j k → j .0 < 64
-  pub head : (l : ListIndex) → p ≡ ReceivePart.Head l → l .0 < 64
-  pub token : (l : ListIndex) → p ≡ ReceivePart.Token l → l .0 < 64
-
--- The 64 slots stand in the first 1,024 words, the 64 lists in the 128 after them.
-pub receive-low : (i : ℕ) → ReceiveLow (receivePart i)
-unfolding receivePart
-receive-low i =
-    pick-by ReceiveLow (ltb i 1024)
-    (λ h.
-    let low : i < 1024 = ltb-true _ _ h in
-    record { slot = λ j k e. let first : j .0 ≡ i / 16 = cc in omega arith; head = λ l e. clash cc; token = λ l e. clash cc })
-    (λ h.
-    pick-by ReceiveLow (leb 1152 i)
-    (λ k. record { slot = λ j k e. clash cc; head = λ l e. clash cc; token = λ l e. clash cc })
-    (λ k.
-    let low : i < 1152 = leb-false _ _ k in
-    pick-by ReceiveLow (eqb (i % 2) 0)
-    (λ z. record { slot = λ j k e. clash cc; head = λ l e. let same : l .0 ≡ (i - 1024) / 2 = cc in omega arith; token = λ l e. clash cc })
-    (λ z. record { slot = λ j k e. clash cc; head = λ l e. clash cc; token = λ l e. let same : l .0 ≡ (i - 1024) / 2 = cc in omega arith })))
-
 module _ (receive notices : List ℕ) (i v : ℕ) {p q : ReceivePart} (e : p ≡ receivePart i) (h : p ≡ q) where
   -- The part decides.
   pub by-part : {r : Writing} → r ≡ judgeReceiveWord receive notices q v → r ≡ judgeReceiveWord receive notices (receivePart i) v
@@ -191,7 +149,7 @@ module _ (receive notices : List ℕ) (i v : ℕ) {p q : ReceivePart} (e : p ≡
 
 -- A head's list is one of the 64.
 pub head-asks : (i : ℕ) {p : ReceivePart} (l : ListIndex) → p ≡ receivePart i → p ≡ ReceivePart.Head l → l .0 < 64
-head-asks i l e h = receive-low i .head l (sym e ∙ h)
+head-asks i l e h = rw (sym e ∙ h) at (receive-part i)
 
 -- ---- registers
 

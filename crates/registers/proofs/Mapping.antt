@@ -1,19 +1,18 @@
--- The map by ranges, and what it promises of the numbers that it hands on. Assumes nothing.
+-- The map by ranges, and what an access reaches. Assumes nothing.
 use mathlib.Core.Path.{_≡_, refl, sym, ap, _∙_}
 use Prim.Native.Nat.{ℕ, _+_, _-_, _/_, _%_, _≤_, _<_}
 use native.Mathlib.Omega.{arith}
 use mathlib.Core.Bool.{true, false}
 use borrow.Author.Tests.{leb-true, le-leb, lt-leb, eq-eqb, ne-eqb}
 use lib.Dec.{eqb, leb}
-use Rattle.ground.proofs.Choice.{arm-yes, arm-no, pick-holds, pick-by}
-use Rattle.ground.proofs.Tests.{and-right, and-both, and-no-left, and-no-right}
+use Rattle.ground.proofs.Choice.{arm-yes, arm-no}
+use Rattle.ground.proofs.Tests.{and-both, and-no-left, and-no-right}
 use Rattle.rules.specs.declared.Mapped.{Mapped}
 use Rattle.rules.specs.declared.Reach.{Reach}
 use Rattle.rules.specs.declared.Saved.{Saved}
 use Rattle.rules.specs.Registers.{single, between, mapped, decode, pointerOn, reach, stepped}
 use Rattle.rules.specs.Memory.{sendSize, receiveSize}
 use Rattle.rules.specs.Saved.{withPointers}
-use Rattle.sound.specs.Facts.{Ranges}
 
 -- ---- the ranges
 
@@ -86,65 +85,3 @@ module _ (s : Saved) {r : Mapped} where
   -- No step: nothing moves.
   pub stays : {x : Mapped} → r ≡ x → s ≡ stepped x s → s ≡ stepped r s
   stays is e = e ∙ ap (λ y. stepped y s) (sym is)
-
--- ---- the words that are reached
-
--- What a register number hands on: a descriptor's word, or the low byte of a page.
-abbrev HandsOn : Mapped → Type 0
-HandsOn (Mapped.Single x) = Unit {0}
-HandsOn Mapped.SendWord = Unit {0}
-HandsOn Mapped.SendStep = Unit {0}
-HandsOn Mapped.ReceiveWord = Unit {0}
-HandsOn Mapped.ReceiveStep = Unit {0}
-HandsOn (Mapped.DescriptorWord i) = i < 64
-HandsOn (Mapped.SendPage low) = low < 256
-HandsOn (Mapped.ReceivePage low) = low < 256
-HandsOn Mapped.Unmapped = Unit {0}
-
-single-hands : (a : ℕ) → HandsOn (single a)
-unfolding single
-single-hands a = search (pick-holds HandsOn) depth 40
-
-mapped-hands : (a : ℕ) → HandsOn (mapped a)
-unfolding mapped
-mapped-hands a =
-    pick-by HandsOn (between 0x100 0x1FC a)
-    (λ h. let u : a ≤ 0x1FC = leb-true _ _ (and-right (leb 0x100 a) _ h) in omega arith)
-    (λ g.
-    pick-by HandsOn (between 0x200 0x2FC a)
-    (λ h. let u : a ≤ 0x2FC = leb-true _ _ (and-right (leb 0x200 a) _ h) in omega arith)
-    (λ g₂.
-    pick-by HandsOn (between 0x300 0x3FC a)
-    (λ h. let u : a ≤ 0x3FC = leb-true _ _ (and-right (leb 0x300 a) _ h) in omega arith)
-    (λ g₃. single-hands a)))
-
-decode-hands : (a : ℕ) → HandsOn (decode a)
-unfolding decode
-decode-hands a = search (pick-holds HandsOn, mapped-hands)
-
--- What is reached is a word of its RAM.
-abbrev Held : Reach → Type 0
-Held (Reach.No why) = Unit {0}
-Held (Reach.Itself x) = Unit {0}
-Held (Reach.InSend i) = i < sendSize
-Held (Reach.InReceive i) = i < receiveSize
-
-module _ (s : Saved) (ok : Ranges s) where
-  reach-held : (r : Mapped) → HandsOn r → Held (reach s r)
-  unfolding reach
-  reach-held (Mapped.Single x) h = h
-  reach-held Mapped.SendWord h = omega (arith, ok .sendpointer .inside)
-  reach-held Mapped.SendStep h = omega (arith, ok .sendpointer .inside)
-  reach-held Mapped.ReceiveWord h = omega (arith, ok .receivepointer .inside)
-  reach-held Mapped.ReceiveStep h = omega (arith, ok .receivepointer .inside)
-  reach-held (Mapped.DescriptorWord i) h = omega arith
-  reach-held (Mapped.SendPage low) h = omega (arith, ok .sendpointer .inside)
-  reach-held (Mapped.ReceivePage low) h = omega (arith, ok .receivepointer .inside)
-  reach-held Mapped.Unmapped h = h
-
-  -- Of a machine whose pointers are in their ranges.
-  pub in-send : (a i : ℕ) → reach s (decode a) ≡ Reach.InSend i → i < sendSize
-  in-send a i e = rw e at (reach-held (decode a) (decode-hands a))
-
-  pub in-receive : (a i : ℕ) → reach s (decode a) ≡ Reach.InReceive i → i < receiveSize
-  in-receive a i e = rw e at (reach-held (decode a) (decode-hands a))

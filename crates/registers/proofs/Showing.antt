@@ -1,6 +1,5 @@
 -- The steps of a read, put together. Assumes nothing.
-use mathlib.Core.Path.{_≡_, refl, sym, ap, _∙_}
-use mathlib.Core.Bool.{Bool, true, false, true≢false}
+use mathlib.Core.Path.{_≡_, sym, ap, _∙_}
 use mathlib.Core.List.{List, []}
 use Prim.Native.Nat.{ℕ, _+_, _-_, _*_, _/_, _%_, _<_, _≤_}
 use native.Mathlib.Omega.{arith}
@@ -15,15 +14,14 @@ use Rattle.rules.specs.declared.Saved.{Saved}
 use Rattle.rules.specs.declared.Shown.{Shown}
 use Rattle.rules.specs.declared.Slot.{Slot}
 use Rattle.rules.specs.declared.SlotIndex.{SlotIndex}
-use Rattle.rules.specs.Memory.{Machine, machine, slot, slotWord}
-use Rattle.rules.specs.Registers.{decode, reach, stepped, pcsr1, shows, shownItself}
+use Rattle.rules.specs.Memory.{Machine, machine, sendSize, receiveSize, slot, slotWord}
+use Rattle.rules.specs.Registers.{decode, stepped, pcsr1, shows, shownItself}
 use Rattle.rules.specs.Slots.{slotAt}
 use Rattle.rules.specs.Calls.{judgeRead, readDone, actRead}
 use Rattle.replies.specs.Refusing.{Refuses}
-use Rattle.sound.specs.Facts.{Sound}
-use Rattle.sound.proofs.Passing.{past-gate}
+use Rattle.laws.specs.Sound.{Sound}
+use Rattle.laws.proofs.Reading.{of-read}
 use Rattle.registers.specs.Reading.{Showable, InsideReceive, Readable, SlotShows, Answers, Reads}
-use Rattle.registers.proofs.Mapping.{in-send, in-receive}
 
 -- ---- registers
 
@@ -104,26 +102,13 @@ module _ (r : Mapped) (s : Saved) (send receive : List ℕ) {v : Reach} where
 
 -- ---- from judging
 
--- Whether nothing is reached.
-abbrev refuses : Reach → Bool
-refuses (Reach.No why) = true
-refuses (Reach.Itself x) = false
-refuses (Reach.InSend i) = false
-refuses (Reach.InReceive i) = false
-
--- What is reached is reached past the gate.
-past : (m : Machine) (r : Mapped) (v : Reach) → refuses v ≡ false → judgeRead m r ≡ v
-    → Sound (m .saved) (m .send) (m .receive) (length (m .bytes)) (length (m .notices)) × (reach (m .saved) r ≡ v)
-unfolding judgeRead
-past m r v n h = past-gate Reach.No m _ (λ why e. true≢false (ap refuses e ∙ n)) h
-
 -- What acting on a read asks, once it was judged.
 pub readable : (m : Machine) (a : ℕ) {v : Reach} → judgeRead m (decode a) ≡ v → Readable (m .saved) (m .send) (m .receive) v
 readable m a h =
     record {
       itself =
           λ x is.
-          let sound = past m (decode a) (Reach.Itself x) refl (h ∙ is) .0 in
+          let sound : Sound m = rw (h ∙ is) at (of-read m a) in
           record {
             size = sound .sized .receive;
             inthi = sound .ranges .inthi;
@@ -133,10 +118,10 @@ readable m a h =
           };
       insend =
           λ i is.
-          let found = past m (decode a) (Reach.InSend i) refl (h ∙ is) in
-          rw (found .0 .sized .send) (in-send (m .saved) (found .0 .ranges) a i (found .1));
+          let found : Sound m × (i < sendSize) = rw (h ∙ is) at (of-read m a) in
+          rw (found .0 .sized .send) (found .1);
       inreceive =
           λ i is.
-          let found = past m (decode a) (Reach.InReceive i) refl (h ∙ is) in
-          record { size = found .0 .sized .receive; low = in-receive (m .saved) (found .0 .ranges) a i (found .1) };
+          let found : Sound m × (i < receiveSize) = rw (h ∙ is) at (of-read m a) in
+          record { size = found .0 .sized .receive; low = found .1 };
     }

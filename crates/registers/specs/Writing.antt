@@ -1,6 +1,5 @@
 -- What a write asks, once it is judged, and what it gives. What it gives holds whatever the memories hold that it is not lent. Assumes nothing.
 use mathlib.Core.Path.{_≡_}
-use mathlib.Core.Logic.{_≢_}
 use mathlib.Core.List.{List, []}
 use Prim.Native.Nat.{ℕ, _<_}
 use lib.ListN.{length}
@@ -18,6 +17,7 @@ use Rattle.rules.specs.Registers.{decode}
 use Rattle.rules.specs.Writes.{judgeReached, receiveStored, reset}
 use Rattle.rules.specs.Replies.{answered}
 use Rattle.rules.specs.Calls.{actWrite}
+use Rattle.laws.specs.Writing.{PlainWord}
 use Rattle.notices.specs.Steps.{Pushable}
 
 -- ---- what a write asks
@@ -37,10 +37,6 @@ SendHolds (SendStore.Start d) = d .0 < descriptors
 pub record InSend (x : SendStore) (words : ℕ) : Type 0 where
   pub size : words ≡ sendSize
   pub holds : SendHolds x
-
--- A slot's word 0, 1 or 6.
-pub record PlainWord (k : ℕ) : Type 0 where
-  pub other : k ≢ 0 → k ≢ 1 → k ≡ 6
 
 -- A store is to a word of Receive RAM that takes it.
 abbrev pub ReceiveHolds : ReceiveStore → Type 0

@@ -22,7 +22,7 @@ ghost use Rattle.rules.specs.Registers.{decode, reach};
 ghost use Rattle.rules.specs.Sound.{soundOk};
 ghost use Rattle.rules.specs.Writes.{judgeRegister};
 ghost use Rattle.rules.specs.Calls.{isReset, judgeWrite};
-ghost use Rattle.sound.specs.Facts.{Sized};
+ghost use Rattle.laws.specs.Sound.{Sized};
 ghost use Rattle.registers.specs.Writing.{Rams, Judges};
 
 // PCSR0: a reset, or its other fields.

@@ -21,7 +21,7 @@ use Rattle.rules.specs.Packet.{payloadMost}
 use Rattle.rules.specs.Notices.{zeroNotice, canPostAll}
 use Rattle.rules.specs.Sending.{descriptorAt, isActive, nextPayload, isLast, sendPosting, isReady, firstFrom, nextSender, noneActive}
 use Rattle.rules.specs.Calls.{sendingOf}
-use Rattle.notices.specs.Steps.{Listed}
+use Rattle.laws.specs.Postings.{Listed}
 use Rattle.sender.specs.Steps.{Askable, Choosable}
 
 -- ---- the next packet

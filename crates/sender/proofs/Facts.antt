@@ -1,52 +1,45 @@
 -- What choosing and sending ask, from what was judged. Assumes nothing.
-use mathlib.Core.Path.{_≡_, refl, sym, ap, _∙_}
-use mathlib.Core.Bool.{Bool, true, false, _&&_}
+use mathlib.Core.Path.{_≡_, refl, _∙_}
+use mathlib.Core.Bool.{Bool, true, false}
 use mathlib.Core.List.{List}
-use Prim.Native.Nat.{ℕ, zero, suc, _+_, _%_, _^_, _<_, _≤_}
+use Prim.Native.Nat.{ℕ, _+_, _^_, _<_, _≤_}
 use native.Mathlib.Omega.{arith}
-use borrow.Author.Tests.{leb-true}
 use lib.ListN.{length}
-use Rattle.ground.proofs.Choice.{pick-holds, pick-by, went}
-use Rattle.ground.proofs.Tests.{and-left, and-right}
+use Rattle.ground.proofs.Choice.{pick-holds}
 use Rattle.rules.specs.declared.Descriptor.{Descriptor}
 use Rattle.rules.specs.declared.DescriptorIndex.{DescriptorIndex}
-use Rattle.rules.specs.declared.Found.{Found}
-use Rattle.rules.specs.declared.Refusal.{Refusal}
 use Rattle.rules.specs.declared.Saved.{Saved}
 use Rattle.rules.specs.declared.Sending.{Sending}
 use Rattle.rules.specs.declared.Verdict.{Verdict}
-use Rattle.rules.specs.Words.{isControlPkt, isDirectIo, notifies, noteIndex}
-use Rattle.rules.specs.Memory.{Machine, dataMost, directTo, lists, descriptors, descriptor}
-use Rattle.rules.specs.Packet.{packetMost}
-use Rattle.rules.specs.Sending.{descriptorAt, isActive, nextPayload, isLast, sendPosting, isReady, firstFrom, nextSender}
-use Rattle.rules.specs.Calls.{sendingOf, judgeSend}
-use Rattle.sound.specs.Facts.{Going, Sound}
+use Rattle.rules.specs.Words.{isControlPkt, isDirectIo}
+use Rattle.rules.specs.Memory.{Machine, machine, dataMost, directTo}
+use Rattle.rules.specs.Sending.{nextPayload, sendPosting}
+use Rattle.rules.specs.Calls.{judgeSend}
+use Rattle.laws.specs.Sound.{Going, theDescriptor, Sound}
+use Rattle.laws.specs.Verdicts.{Chosen}
+use Rattle.laws.proofs.Sound.{going}
+use Rattle.laws.proofs.Postings.{send-listed}
+use Rattle.laws.proofs.Verdicts.{of-send}
 use Rattle.sound.specs.Gated.{Gated}
-use Rattle.sound.proofs.Passing.{past-gate, gated-sound}
-use Rattle.notices.specs.Steps.{Listed}
-use Rattle.notices.proofs.Facts.{on-list, on-none, postable-all}
-use Rattle.sender.specs.Steps.{Choosable, SendableFrom, Sendable}
+use Rattle.sound.proofs.Passing.{gated-sound}
+use Rattle.notices.proofs.Facts.{postable-all}
+use Rattle.sender.specs.Steps.{Choosable, SendableFrom, Markable, Sendable}
 use Rattle.sender.proofs.Choice.{none-sent}
 
 -- ---- choosing
 
--- What a descriptor posts is on a list, where with notify note_index is below 64.
-listed : (d : Descriptor) → (notifies (d .control1) ≡ true → noteIndex (d .address1) < lists) → Listed (sendPosting d)
-unfolding sendPosting
-listed d note = pick-by Listed (isLast d && notifies (d .control1)) (λ e. on-list (note (and-right (isLast d) _ e))) (λ e. on-none)
-
-module _ (s : Saved) (send receive : List ℕ) (dataLength n : ℕ) (sound : Sound s send receive dataLength n) where
-  -- In a sound machine what an active descriptor posts is on a list.
-  active-listed : (d : DescriptorIndex) → d .0 < descriptors → isActive (descriptorAt send d) ≡ true → Listed (sendPosting (descriptorAt send d))
-  active-listed d low a = listed (descriptorAt send d) (sound .active d low a .note)
-
-  -- A sound machine's sender can be chosen.
-  choosable : Choosable s send receive
-  choosable =
-      record {
-        last = sound .ranges .lastsender;
-        each = λ i low. record { low = low; words = sound .sized .send; lists = sound .sized .receive; listed = active-listed i low };
-      }
+-- A sound machine's sender can be chosen.
+choosable : (m : Machine) → Sound m → Choosable (m .saved) (m .send) (m .receive)
+choosable m sound =
+    record {
+      last = sound .ranges .lastsender;
+      each = λ i low. record {
+        low = low;
+        words = sound .sized .send;
+        lists = sound .sized .receive;
+        listed = λ a. send-listed (theDescriptor m i) _ _ (sound .active i low a);
+      };
+    }
 
 -- What the judge of a send reads, once the gate said go.
 module _ (s : Saved) (send receive bytes notices : List ℕ) {v : Verdict} (told : Gated s send receive (length bytes) (length notices) v)
@@ -55,7 +48,7 @@ module _ (s : Saved) (send receive bytes notices : List ℕ) {v : Verdict} (told
   active-asks = gated-sound s send receive bytes notices told go .sized .send
 
   pub choose-asks : Choosable s send receive
-  choose-asks = choosable s send receive _ _ (gated-sound s send receive bytes notices told go)
+  choose-asks = choosable (machine s send receive bytes notices) (gated-sound s send receive bytes notices told go)
 
 -- ---- the payload
 
@@ -73,12 +66,12 @@ with-payload d some = side (isControlPkt (d .control1)) refl
     side false c = refl
 
 -- A descriptor that keeps the go rule: its payload lies in its memory.
-module _ (d : Descriptor) (dataLength : ℕ) (going : Going d (d .control1) (d .bytestogo) dataLength) (some : 0 < nextPayload d) where
+module _ (d : Descriptor) (dataLength : ℕ) (keeps : Going d (d .control1) (d .bytestogo) dataLength) (some : 0 < nextPayload d) where
   in-bytes : isDirectIo (d .control1) ≡ false → d .msgaddress + nextPayload d ≤ dataLength
-  in-bytes e = omega (arith, going .message (with-payload d some) .bytes e, payload-left d)
+  in-bytes e = omega (arith, keeps .message (with-payload d some) .bytes e, payload-left d)
 
   in-direct : isDirectIo (d .control1) ≡ true → d .msgaddress + nextPayload d ≤ directTo
-  in-direct e = omega (arith, going .message (with-payload d some) .direct e .most, payload-left d)
+  in-direct e = omega (arith, keeps .message (with-payload d some) .direct e .most, payload-left d)
 
   -- Its address can rise by the payload.
   rises : dataLength ≤ dataMost → d .msgaddress + nextPayload d < 2 ^ 32
@@ -90,83 +83,39 @@ module _ (d : Descriptor) (dataLength : ℕ) (going : Going d (d .control1) (d .
 
 -- ---- what was chosen
 
--- What the search finds is one of the four, and passes.
-found : (test : DescriptorIndex → Bool) (last k n : ℕ) (d : DescriptorIndex) → firstFrom test last k n ≡ Found.At d → (d .0 < descriptors) × (test d ≡ true)
-unfolding firstFrom
-found test last k zero d e = let z : _≡_ {A = ℕ} 0 1 = cc in absurd (omega arith)
-found test last k (suc n) d e =
-    let at : DescriptorIndex = descriptor ((last + 1 + k) % descriptors) in
-    pick-by (λ (f : Found). f ≡ Found.At d → (d .0 < descriptors) × (test d ≡ true)) (test at)
-    (λ passes q. let same : at ≡ d = cc in let low : at .0 < descriptors = omega arith in rw (← same) (low, passes))
-    (λ fails. found test last (k + 1) n d)
-    e
-
--- The descriptor that a verdict names.
-abbrev chosenBy : Sending → Found
-chosenBy (Sending.No why) = Found.Nothing
-chosenBy (Sending.Sends i) = Found.At i
-chosenBy (Sending.Waits i) = Found.At i
-
--- It is the one that was found.
-by-found : (ready : Bool) (f : Found) → chosenBy (sendingOf ready f) ≡ f
-unfolding sendingOf
-by-found ready Found.Nothing = refl
-by-found ready (Found.At d) = pick-holds (λ (v : Sending). chosenBy v ≡ Found.At d) ready refl refl
-
-module _ (m : Machine) (ready : Bool) (room : ℕ) (i : DescriptorIndex) {v : Sending} (judged : judgeSend m ready room ≡ v) (by : chosenBy v ≡ Found.At i) where
-  -- A refusal names none.
-  refusal-not : (why : Refusal) → Sending.No why ≡ v → ⊥
-  refusal-not why e =
-      let none : Found.Nothing ≡ Found.At i = ap chosenBy e ∙ by in
-      let z : _≡_ {A = ℕ} 0 1 = cc in
-      omega arith
-
-  -- The machine is sound, the room long enough, and the descriptor the first that is ready.
-  chosen : Sound (m .saved) (m .send) (m .receive) (length (m .bytes)) (length (m .notices)) × (packetMost ≤ room) × (i .0 < descriptors)
-      × (isReady (m .saved) (m .receive) (descriptorAt (m .send) i) ≡ true)
-  unfolding judgeSend nextSender
-  chosen =
-      let past = past-gate Sending.No m _ refusal-not judged in
-      let on = went _ (refusal-not _) (past .1) in
-      let long = went _ (refusal-not _) (on .1) in
-      let busy = went _ (refusal-not _) (long .1) in
-      let first : nextSender (m .saved) (m .send) (m .receive) ≡ Found.At i = sym (by-found ready _) ∙ ap chosenBy (busy .1) ∙ by in
-      let it = found _ _ 0 4 i first in
-      (past .0, leb-true _ _ (long .0), it .0, it .1)
-
+module _ (m : Machine) (room : ℕ) (i : DescriptorIndex) (c : Chosen m room i) where
   -- It can send.
   chosen-sends : SendableFrom i (m .saved) (m .send) (m .receive) (length (m .bytes)) (length (m .notices)) room
-  unfolding isReady
   chosen-sends =
-      let d : Descriptor = descriptorAt (m .send) i in
-      let sound = chosen .0 in
-      let low = chosen .2 in
-      let active : isActive d ≡ true = and-left (isActive d) _ (chosen .3) in
-      let going = sound .active i low active in
+      let d : Descriptor = theDescriptor m i in
       let n : ℕ = length (m .bytes) in
+      let keeps = going d (d .control1) (d .bytestogo) n (c .rule) in
+      let sound = c .sound in
       record {
         packet = record {
-          low = low;
+          low = c .low;
           size = sound .sized .send;
           forms = record {
             own = sound .ranges .node;
-            roomy = chosen .1;
-            bytes = λ some e. in-bytes d n going some e;
-            direct = λ some e. omega (arith, in-direct d n going some e, sound .sized .send);
+            roomy = c .long;
+            bytes = λ some e. in-bytes d n keeps some e;
+            direct = λ some e. omega (arith, in-direct d n keeps some e, sound .sized .send);
           };
-          moves = record { address = λ some. rises d n going some (sound .sized .bytes) };
+          moves = record { address = λ some. rises d n keeps some (sound .sized .bytes) };
         };
         posts =
-            postable-all (m .saved) (m .send) (m .receive) _ _ sound (sendPosting d)
-            (active-listed (m .saved) (m .send) (m .receive) _ _ sound i low active)
-            (and-right (isActive d) _ (chosen .3));
+            postable-all (m .saved) (m .receive) _ (sound .sized .receive) (sound .nqr) (sound .nbqr) (sendPosting d) (sound .heads) (c .listed) (c .posts);
       }
+
+  -- It can be marked.
+  chosen-waits : Markable i (m .send)
+  chosen-waits = record { low = c .low; size = c .sound .sized .send }
 
 -- A send that was judged can be done.
 pub sendable : (m : Machine) (ready : Bool) (room : ℕ) {v : Sending} → judgeSend m ready room ≡ v
     → Sendable v (m .saved) (m .send) (m .receive) (length (m .bytes)) (length (m .notices)) room
 sendable m ready room h =
     record {
-      sends = λ i e. chosen-sends m ready room i h (ap chosenBy e);
-      waits = λ i e. let it = chosen m ready room i h (ap chosenBy e) in record { low = it .2; size = it .0 .sized .send };
+      sends = λ i e. chosen-sends m room i (rw (h ∙ e) at (of-send m ready room));
+      waits = λ i e. chosen-waits m room i (rw (h ∙ e) at (of-send m ready room));
     }

@@ -17,7 +17,8 @@ use Rattle.rules.specs.Packet.{payloadMost, packetMost}
 use Rattle.rules.specs.Sending.{descriptorAt, storeDescriptor, isActive, nextPayload, sendPosting, nextPacket, afterPacket}
 use Rattle.rules.specs.Replies.{answered}
 use Rattle.rules.specs.Calls.{actSend}
-use Rattle.notices.specs.Steps.{Listed, PostableAll}
+use Rattle.laws.specs.Postings.{Listed}
+use Rattle.notices.specs.Steps.{PostableAll}
 use Rattle.sender.specs.declared.acting.Sent.{Sent}
 
 -- ---- choosing

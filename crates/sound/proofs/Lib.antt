@@ -1,3 +1,2 @@
--- What the tests of soundness say, and how a call's judgement goes past the gate. Assumes nothing.
-pub mod Facts
+-- How a call's judgement goes past the gate. Assumes nothing.
 pub mod Passing

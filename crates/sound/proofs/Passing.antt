@@ -1,20 +1,20 @@
--- How the judgement of any call goes past the gate or stops at it, and what is known past it. Assumes nothing.
+-- How the judgement of any call goes past the gate or stops at it, by what the code's gate says. Assumes nothing.
 use mathlib.Core.Path.{_≡_, refl, sym, ap, _∙_}
 use mathlib.Core.List.{List}
 use Prim.Native.Nat.{ℕ}
 use native.Mathlib.Omega.{arith}
 use lib.ListN.{length}
 use Rattle.ground.specs.Choice.{need}
-use Rattle.ground.proofs.Choice.{need-ap, went}
+use Rattle.ground.proofs.Choice.{need-ap}
 use Rattle.rules.specs.declared.Refusal.{Refusal}
 use Rattle.rules.specs.declared.Saved.{Saved}
 use Rattle.rules.specs.declared.Verdict.{Verdict}
 use Rattle.rules.specs.Memory.{Machine, machine}
 use Rattle.rules.specs.Sound.{isSized, isSound}
 use Rattle.rules.specs.Calls.{gate}
-use Rattle.sound.specs.Facts.{Sound}
+use Rattle.laws.specs.Sound.{Sound}
+use Rattle.laws.proofs.Gate.{past-gate}
 use Rattle.sound.specs.Gated.{Gated}
-use Rattle.sound.proofs.Facts.{sound}
 
 -- A judgement by the gate's verdict: the rest of it, or the refusal in the call's own verdict.
 abbrev pub by : {A : Type 0} → (Refusal → A) → A → Verdict → A
@@ -29,16 +29,7 @@ module _ {A : Type 0} (refuse : Refusal → A) (m : Machine) (rest : A) where
       let f : Verdict → A = by refuse rest in
       sym (need-ap f (isSized m) _ _ ∙ ap (need (isSized m) (f (Verdict.No Refusal.Sizes))) (need-ap f (isSound m) _ _))
 
-  -- A judgement that is no refusal: the machine is sound, and the rest decided.
-  pub past-gate : {v : A} → ((why : Refusal) → refuse why ≡ v → ⊥) → gate refuse m rest ≡ v
-      → Sound (m .saved) (m .send) (m .receive) (length (m .bytes)) (length (m .notices)) × (rest ≡ v)
-  unfolding gate
-  past-gate other h =
-      let sizes = went (isSized m) (other _) h in
-      let tests = went (isSound m) (other _) (sizes .1) in
-      (sound (m .saved) (m .send) (m .receive) _ _ (sizes .0) (tests .0), tests .1)
-
--- The same at the two arms of a match on what the code's gate says.
+-- At the two arms of a match on what the code's gate says.
 module _ (s : Saved) (send receive bytes notices : List ℕ) {v : Verdict} (told : Gated s send receive (length bytes) (length notices) v) where
   -- What it says is the gate's verdict.
   said : v ≡ gate Verdict.No (machine s send receive bytes notices) Verdict.Go
@@ -52,7 +43,7 @@ module _ (s : Saved) (send receive bytes notices : List ℕ) {v : Verdict} (told
       → r ≡ gate refuse (machine s send receive bytes notices) rest
   gated-no refuse rest not e = e ∙ sym (gate-by refuse _ rest ∙ ap (by refuse rest) (sym said ∙ not))
 
-  pub gated-sound : v ≡ Verdict.Go → Sound s send receive (length bytes) (length notices)
+  pub gated-sound : v ≡ Verdict.Go → Sound (machine s send receive bytes notices)
   gated-sound go =
       let other : (why : Refusal) → Verdict.No why ≡ Verdict.Go → ⊥ = λ why e. let z : _≡_ {A = ℕ} 0 1 = cc in omega arith in
       past-gate Verdict.No (machine s send receive bytes notices) Verdict.Go other (sym said ∙ go) .0

@@ -1,3 +1,2 @@
--- What the gate says, and what is known of a machine past it. Assumes nothing.
+-- What the gate says. Assumes nothing.
 pub mod Gated
-pub mod Facts

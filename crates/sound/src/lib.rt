@@ -3,11 +3,6 @@ mod descriptors;
 mod lists;
 mod registers;
 
-pub use descriptors::go_rule;
-pub use descriptors::is_active;
-pub use lists::head_word;
-pub use lists::is_block;
-pub use lists::place_word;
 pub use registers::pcsr0_ok;
 pub use registers::pointer_ok;
 use rules::Refusal;
@@ -17,7 +12,7 @@ ghost use mathlib.Core.Path.{_≡_};
 ghost use lib.ListN.{length};
 ghost use Rattle.rules.specs.Memory.{sizesOk};
 ghost use Rattle.rules.specs.Sound.{soundOk};
-ghost use Rattle.sound.specs.Facts.{Sized};
+ghost use Rattle.laws.specs.Sound.{Sized};
 ghost use Rattle.sound.specs.Gated.{Gated};
 
 // Each memory has its size, by the four lengths.

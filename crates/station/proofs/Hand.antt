@@ -62,7 +62,7 @@ to-wait from to input rest h there back =
 part-start : (a k n : ℕ) (l : List ℕ) → k ≤ n → take k (part a n l) ≡ part a k l
 part-start a k n l h = take-take k n (drop a l) h
 
-part-rest : (a k n : ℕ) (l : List ℕ) → k ≤ n → a + n ≤ length l → drop k (part a n l) ≡ part (a + k) (n - k) l
+pub part-rest : (a k n : ℕ) (l : List ℕ) → k ≤ n → a + n ≤ length l → drop k (part a n l) ≡ part (a + k) (n - k) l
 part-rest a k n l h f =
     let e : n ≡ k + (n - k) = omega arith in
     ap (λ (x : ℕ). drop k (part a x l)) e

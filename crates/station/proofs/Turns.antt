@@ -3,7 +3,7 @@ use Prim.Native.Nat.{ℕ, _+_, _-_, _%_, _<_, _≤_}
 use mathlib.Core.Path.{_≡_, refl, sym, ap, _∙_}
 use mathlib.Core.List.{List, [], _++_, append-assoc, append-nil}
 use native.Mathlib.Omega.{arith}
-use lib.ListN.{length, take, drop, take-append-drop, drop-of-length-le}
+use lib.ListN.{length, length-append, length-drop, take, drop, take-append-drop, drop-of-length-le}
 use lib.Seq.{length-take-le, take-length}
 use Rattle.ground.specs.Lists.{part}
 use Rattle.ground.proofs.Lists.{length-part, part-add}
@@ -17,8 +17,8 @@ use Rattle.boundary.specs.Boundary.{savedOf, wordsOf}
 use Rattle.records.specs.Records.{Opens}
 use Rattle.records.proofs.Rows.{in-parts}
 use Rattle.station.specs.declared.answering.Answered.{Answered}
-use Rattle.station.specs.Turns.{answeredTo, answeredOf, linesOf, waitingIn, cameIn, handIn, Answers, Held, held, Zeros, opened, Begun, goneOn, linesNow, Reads, none, _▸_, read, after, written, Going, Turned, InTurns}
-use Rattle.station.proofs.Hand.{at-the-end, before-the-end}
+use Rattle.station.specs.Turns.{answeredTo, answeredOf, linesOf, waitingIn, cameIn, handIn, Answers, Held, held, Zeros, opened, Begun, goneOn, linesNow, Reads, none, _▸_, read, after, written, Going, SoFar, Turned, InTurns}
+use Rattle.station.proofs.Hand.{at-the-end, before-the-end, part-rest}
 
 -- ---- the lines of a turn
 
@@ -58,10 +58,22 @@ onward (r ▸ came) g later =
     ∙ ap (λ (l : List ℕ). written r ++ l) (whole-lines (after r) came (g .1) later)
     ∙ sym (append-assoc (written r) _ _)
 
+-- What waits is what the whole records leave of all that was read.
+many-wait : (r : Reads) → Going r → length (after r .waits) ≡ length (read r) % recordSize
+unfolding goneOn
+many-wait none g = refl
+many-wait (r ▸ came) g =
+    let hand : List ℕ = after r .waits ++ came in
+    let cut : length hand - length hand % recordSize ≡ answeredTo (length came) (length hand) = before-the-end _ _ (λ z. absurd (omega (arith, g .1, z))) in
+    let rest : length (drop (answeredTo (length came) (length hand)) hand) ≡ length hand - answeredTo (length came) (length hand) = length-drop _ hand in
+    let before : length (after r .waits) ≡ length (read r) % recordSize = many-wait r (g .0) in
+    omega (arith, rest, cut, before, length-append (after r .waits) came, length-append (read r) came)
+
 pub in-turns : InTurns
 in-turns =
     record {
       onward = onward;
+      waits = many-wait;
       whole = λ r g.
           ap (λ (l : List ℕ). written r ++ l) (last-lines (after r) ∙ ap (linesOf (after r .machine)) (sym (append-nil (after r .waits))))
           ∙ sym (onward r g [])
@@ -84,6 +96,41 @@ turned {before} {left} {came} {out} {next} state lines inside =
       whole = λ r g e empty.
           let nothing : came ≡ [] = drop-of-length-le came {i = 0} (omega arith) in
           now r e ∙ ap (λ (l : List ℕ). written (r ▸ l)) nothing ∙ in-turns .whole r g;
+    }
+
+-- ---- from turn to turn
+
+-- Before the first turn nothing was read.
+pub at-first : {saved send receive bytes notices : List ℕ} {kept count : ℕ} (input : List ℕ) → Begun saved send receive bytes notices kept count
+    → SoFar (held saved send receive bytes notices input kept) count
+at-first input b = record { reads = none; going = tt; many = sym (b .none); left = b .opens input }
+
+-- A read leaves the bytes that wait.
+pub still-waits : (input input₂ : List ℕ) (kept : ℕ) → kept < recordSize → recordSize ≤ length input → recordSize ≤ length input₂
+    → take recordSize input₂ ≡ take recordSize input → waitingIn input₂ kept ≡ waitingIn input kept
+still-waits input input₂ kept h long long₂ same =
+    let last : (l : List ℕ) → recordSize ≤ length l → drop (recordSize - kept) (take recordSize l) ≡ waitingIn l kept =
+    λ l f.
+    let at : 0 + (recordSize - kept) ≡ recordSize - kept = omega arith in
+    let many : recordSize - (recordSize - kept) ≡ kept = omega arith in
+    part-rest 0 (recordSize - kept) recordSize l (omega arith) f ∙ (λ i. part (at i) (many i) l) in
+    sym (last input₂ long₂) ∙ ap (drop (recordSize - kept)) same ∙ last input long
+
+pub after-read : {h : Held} {waits : List ℕ} {count : ℕ} → waits ≡ h .waits → SoFar h count → SoFar (record { machine = h .machine; waits = waits }) count
+after-read {h} same f =
+    record { reads = f .reads; going = f .going; many = f .many; left = (λ i. record { machine = h .machine; waits = same i }) ∙ f .left }
+
+-- Where some bytes came, the next turn is given what all turns left.
+pub goes-on : {before left : Held} {out : List ℕ} {next count : ℕ} (input : List ℕ) (n : ℕ) → recordSize + n ≤ length input
+    → Turned before (cameIn input n) next left out → SoFar before count → 0 < n → SoFar left (count + n)
+goes-on {count = count} input n fits t f some =
+    let came : List ℕ = cameIn input n in
+    let long : length came ≡ n = length-part recordSize n input fits in
+    record {
+      reads = f .reads ▸ came;
+      going = (f .going, omega (arith, long));
+      many = length-append (read (f .reads)) came ∙ (λ i. f .many i + long i);
+      left = t .so-far (f .reads) (f .left) .0;
     }
 
 -- What came stands behind what waited.
@@ -112,12 +159,12 @@ in-memories {send} {receive} {bytes} {notices} {saved₂} {send₂} {receive₂}
 -- ---- the beginning
 
 -- The opening reset over memories of zeros, stored; no byte waits.
-pub begun : {saved send receive bytes notices send₂ receive₂ notices₂ : List ℕ} {kept : ℕ} {s : Saved} → Zeros send receive bytes notices
-    → Opens send receive bytes notices (machine s send₂ receive₂ bytes notices₂) → saved ≡ wordsOf s → kept ≡ 0
-    → Begun saved send₂ receive₂ bytes notices₂ kept
+pub begun : {saved send receive bytes notices send₂ receive₂ notices₂ : List ℕ} {kept count : ℕ} {s : Saved} → Zeros send receive bytes notices
+    → Opens send receive bytes notices (machine s send₂ receive₂ bytes notices₂) → saved ≡ wordsOf s → kept ≡ 0 → count ≡ 0
+    → Begun saved send₂ receive₂ bytes notices₂ kept count
 unfolding firstMachine zeroMachine savedOf wordsOf
-begun {saved} {send} {receive} {bytes} {notices} {send₂} {receive₂} {notices₂} {kept} {s} z o stored zero =
+begun {saved} {send} {receive} {bytes} {notices} {send₂} {receive₂} {notices₂} {kept} {count} {s} z o stored zero unread =
     let reset : List ℕ → List ℕ → List ℕ → List ℕ → Machine = λ a b c d. perform (writes pcsr0Number 0x80000000) (machine (resetSaved 0) a b c d) .machine in
     let state : machine (savedOf saved) send₂ receive₂ bytes notices₂ ≡ firstMachine =
     ap (λ (w : List ℕ). machine (savedOf w) send₂ receive₂ bytes notices₂) stored ∙ o .reset ∙ (λ i. reset (z .0 i) (z .1 i) (z .2 i) (z .3 i)) in
-    record { opens = λ input. λ i. record { machine = state i; waits = waitingIn input (zero i) }; nothing = zero }
+    record { opens = λ input. λ i. record { machine = state i; waits = waitingIn input (zero i) }; nothing = zero; none = unread }

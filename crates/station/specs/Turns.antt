@@ -1,6 +1,6 @@
 -- What a turn of the station makes of bytes that came, and what its turns write together. Assumes nothing.
 -- The C functions read and write promise nothing of bytes: which bytes came, and that the lines went out, no contract can say.
-use Prim.Native.Nat.{ℕ, _+_, _-_, _*_, _/_, _<_, _≤_}
+use Prim.Native.Nat.{ℕ, _+_, _-_, _*_, _/_, _%_, _^_, _<_, _≤_}
 use mathlib.Core.Path.{_≡_}
 use mathlib.Core.List.{List, [], _++_}
 use lib.Dec.{eqb}
@@ -78,9 +78,10 @@ abbrev pub opened : Held
 opened = record { machine = firstMachine; waits = [] }
 
 -- The memories have it, whatever the input's room holds.
-pub record Begun (saved send receive bytes notices : List ℕ) (kept : ℕ) : Type 0 where
+pub record Begun (saved send receive bytes notices : List ℕ) (kept count : ℕ) : Type 0 where
   pub opens : (input : List ℕ) → held saved send receive bytes notices input kept ≡ opened
   pub nothing : kept ≡ 0
+  pub none : count ≡ 0
 
 -- ---- a turn
 
@@ -125,6 +126,18 @@ abbrev pub Going : Reads → Type 0
 Going none = Unit {0}
 Going (r ▸ came) = Going r × (0 < length came)
 
+-- No input has so many bytes.
+abbrev pub countMost : ℕ
+countMost = 2 ^ 63
+
+-- What turns left that read so many bytes and did not meet the end of the input. By the count no byte of a begun record is dropped between
+-- two turns: `InTurns.waits`.
+pub record SoFar (h : Held) (count : ℕ) : Type 0 where
+  pub reads : Reads
+  pub going : Going reads
+  pub many : length (read reads) ≡ count
+  pub left : h ≡ after reads
+
 -- A turn made of what the turns before left, and of what came, just what it should; and so, whatever was read before, all that was written
 -- by now is what the turns write, and at the end of the input the station's lines of all that was read.
 pub record Turned (before : Held) (came : List ℕ) (next : ℕ) (left : Held) (out : List ℕ) : Type 0 where
@@ -134,8 +147,9 @@ pub record Turned (before : Held) (came : List ℕ) (next : ℕ) (left : Held) (
   pub so-far : (r : Reads) → before ≡ after r → (left ≡ after (r ▸ came)) × (written r ++ take next out ≡ written (r ▸ came))
   pub whole : (r : Reads) → Going r → before ≡ after r → length came ≡ 0 → written r ++ take next out ≡ station (read r)
 
--- However the reads cut the input: the station's lines are those written so far, and then those of what waits and comes later; and once
--- the end of the input is met, they are all written.
+-- However the reads cut the input: the station's lines are those written so far, and then those of what waits and comes later; once the end
+-- of the input is met, they are all written; and before that, what waits is all that was read but the whole records.
 pub record InTurns : Type 0 where
   pub onward : (r : Reads) → Going r → (later : List ℕ) → station (read r ++ later) ≡ written r ++ linesOf (after r .machine) (after r .waits ++ later)
   pub whole : (r : Reads) → Going r → written (r ▸ []) ≡ station (read r)
+  pub waits : (r : Reads) → Going r → length (after r .waits) ≡ length (read r) % recordSize

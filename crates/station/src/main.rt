@@ -33,6 +33,7 @@ fn main() {
     let mut out = [0u8; 7424];
     let mut rest = [0u8; 192];
     let mut kept = 0usize;
+    let mut count = 0u64;
     begin(
         &mut saved,
         &mut send,
@@ -40,10 +41,10 @@ fn main() {
         &bytes,
         &mut notices,
         &mut kept,
+        &mut count,
     );
-    // Every loop has to be proved to end: so many turns that no input reaches the last.
-    let mut turns = u64::MAX;
-    while turns > 0 {
+    // Every loop has to be proved to end: so many bytes that no input has them.
+    while count < 0x8000_0000_0000_0000 {
         let n = read_on(&mut input);
         let next = turn(
             &mut saved,
@@ -53,14 +54,17 @@ fn main() {
             &mut notices,
             &mut input,
             &mut kept,
+            &mut count,
             n,
             &mut rest,
             &mut out,
         );
         let written = io::write_all(STDOUT_FILENO, &out[..next]);
-        if !written | (n == 0) {
+        if !written {
             break;
         }
-        turns -= 1;
+        if n == 0 {
+            break;
+        }
     }
 }

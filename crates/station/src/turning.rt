@@ -6,9 +6,9 @@ ghost use Prim.Native.Nat.{_+_, _<_, _≤_};
 ghost use lib.ListN.{length};
 ghost use Rattle.rules.specs.Station.{recordSize};
 ghost use Rattle.boundary.specs.Boundary.{savedSize};
-ghost use Rattle.station.specs.Turns.{Rooms, Zeros, Begun, held, cameIn, Turned, InTurns};
+ghost use Rattle.station.specs.Turns.{Rooms, Zeros, Begun, countMost, held, cameIn, SoFar, Turned, InTurns};
 
-// The opening reset over memories of zeros; no byte waits.
+// The opening reset over memories of zeros; no byte waits, and none was read.
 pub(crate) fn begin(
     saved: &mut [u32],
     send: &mut [u32],
@@ -16,13 +16,15 @@ pub(crate) fn begin(
     bytes: &[u8],
     notices: &mut [u32],
     kept: &mut usize,
+    count: &mut u64,
 )
     requires { ⌜ (length (now saved) ≡ savedSize) × Zeros (now send) (now receive) (now bytes) (now notices) ⌝ }
-    ensures { λ _. ⌜ Begun (now (saved .exit)) (now (send .exit)) (now (receive .exit)) (now (bytes .entry)) (now (notices .exit)) (now (kept .exit)) ⌝ }
+    ensures { λ _. ⌜ Begun (now (saved .exit)) (now (send .exit)) (now (receive .exit)) (now (bytes .entry)) (now (notices .exit)) (now (kept .exit)) (now (count .exit)) ⌝ }
 {
     let s = records::open(send, receive, bytes, notices);
     boundary::store(saved, s);
     *kept = 0;
+    *count = 0;
 }
 
 // So many bytes came: with those that wait before them the records at hand are answered, and the rest waits. Where the lines end.
@@ -34,11 +36,14 @@ pub(crate) fn turn(
     notices: &mut [u32],
     input: &mut [u8],
     kept: &mut usize,
+    count: &mut u64,
     n: usize,
     rest: &mut [u8],
     out: &mut [u8],
 ) -> usize
     requires { ⌜ (length (now saved) ≡ savedSize) × Rooms (now input) (now out) (now rest) × (now kept < recordSize) × (recordSize + n ≤ length (now input)) ⌝ }
+    requires { ⌜ (now count < countMost) × SoFar (held (now saved) (now send) (now receive) (now bytes) (now notices) (now input) (now kept)) (now count) ⌝ }
+    ensures { λ r. ⌜ (now (count .exit) ≡ now (count .entry) + n) × (0 < n → SoFar (held (now (saved .exit)) (now (send .exit)) (now (receive .exit)) (now (bytes .exit)) (now (notices .exit)) (now (input .exit)) (now (kept .exit))) (now (count .exit))) ⌝ }
     ensures { λ r. ⌜ (now (kept .exit) < recordSize) × Turned (held (now (saved .entry)) (now (send .entry)) (now (receive .entry)) (now (bytes .entry)) (now (notices .entry)) (now (input .entry)) (now (kept .entry))) (cameIn (now (input .entry)) n) r (held (now (saved .exit)) (now (send .exit)) (now (receive .exit)) (now (bytes .exit)) (now (notices .exit)) (now (input .exit)) (now (kept .exit))) (now (out .exit)) ⌝ }
 {
     let s = boundary::load(saved);
@@ -46,6 +51,7 @@ pub(crate) fn turn(
     let left = answered.saved;
     boundary::store(saved, left);
     *kept = answered.kept;
+    *count += n as u64;
     answered.next
 }
 

@@ -10,13 +10,14 @@ use Rattle.rules.specs.Memory.{Machine, list}
 use Rattle.rules.specs.Notices.{placeOf}
 use Rattle.rules.specs.Replies.{Outcome}
 use Rattle.rules.specs.Calls.{Call, perform}
+use Rattle.laws.specs.Sound.{Block}
+use Rattle.laws.specs.Verdicts.{Unfit, unsound, badNext}
 use Rattle.demands.specs.Runs.{Run, after}
 use Rattle.demands.specs.History.{begun, AfterReset}
-use Rattle.demands.proofs.Blocks.{Block, next}
+use Rattle.demands.proofs.Blocks.{next}
 use Rattle.demands.proofs.Chain.{tip-block}
 use Rattle.demands.proofs.Sight.{below-at}
 use Rattle.demands.proofs.Boards.{places}
-use Rattle.demands.proofs.Verdicts.{Unfit, unsound, badNext}
 use Rattle.demands.proofs.Answers.{Answered, done, fault, refusal, waits, answered}
 use Rattle.demands.proofs.Good.{Good, good-sound, block-test}
 use Rattle.demands.proofs.Since.{good-since}

@@ -23,9 +23,9 @@ use Rattle.rules.specs.Words.{isAckPkt, metaFlag, metaCount, metaOk}
 use Rattle.rules.specs.Memory.{noMetadata, metadataWords}
 use Rattle.rules.specs.Checksum.{checkOf}
 use Rattle.rules.specs.Packet.{headerBytes, metadataBytes, checkWord, bodyCheckBytes, frontBytes, form, headerOf, flagged, payloadFrom, payloadLength, payloadOf, metadataOf, packetOf, headerChecks, fieldsOk, bodyChecks, wellFormed}
+use Rattle.laws.proofs.Sound.{tests}
 use Rattle.demands.specs.Types.{Metadata, Header}
 use Rattle.demands.specs.Fields.{Below, layout, Within, Allowed, fieldsIn, fieldsOf}
-use Rattle.demands.proofs.Judged.{tests}
 use Rattle.demands.proofs.Packets.{body-some, Long, long}
 use Rattle.demands.proofs.Packed.{Made, laid-formed, words-made, none-fit}
 use Rattle.demands.proofs.Taken.{taken-well}

@@ -4,7 +4,7 @@ use mathlib.Core.Path.{_≡_, refl, sym, ap, _∙_}
 use mathlib.Core.Bool.{Bool, true, false, not, _&&_, _||_}
 use mathlib.Core.List.{List, [], _∷_, _++_}
 use native.Mathlib.Omega.{arith}
-use lib.Dec.{eqb, leb}
+use lib.Dec.{eqb}
 use lib.ListN.{length, take, drop}
 use lib.Seq.{take-append-seam}
 use borrow.Author.Tests.{eqb-true, leb-true, not-true}
@@ -15,20 +15,21 @@ use Rattle.ground.proofs.Bytes.{Bytes, row-length, bytes-row}
 use Rattle.ground.proofs.Choice.{pick-no, pick-holds}
 use Rattle.ground.proofs.Field.{field-lt, field-field, pack-unpack, bit-flag}
 use Rattle.ground.proofs.Lists.{length-part, part-holds}
-use Rattle.ground.proofs.Tests.{and-left, and-right, or-first, or-second, not-no}
+use Rattle.ground.proofs.Tests.{and-left, and-right, or-second, not-no}
 use Rattle.rules.specs.Words.{isAckPkt, isDirectIo, isControlPkt, metaFlag, metaCount, metaOk}
 use Rattle.rules.specs.Memory.{Machine, descriptors, noMetadata, metadataWords}
 use Rattle.rules.specs.Saved.{ownNode}
 use Rattle.rules.specs.Packet.{headerBytes, metadataBytes, checkWord, bodyCheckBytes, frontBytes, form}
-use Rattle.rules.specs.Sending.{descriptorAt, isActive, isReady, addressOk, messageSizeOk, goRule, nextPayload, nextBytes, nextHeader, nextPacket}
+use Rattle.rules.specs.Sending.{descriptorAt, isActive, goRule, nextPayload, nextBytes, nextHeader, nextPacket}
 use Rattle.rules.specs.Sound.{isSized, isSound}
 use Rattle.rules.specs.Calls.{sends, perform, judgeSend, packetFrom, actSend, sendCall}
+use Rattle.laws.specs.Sound.{Message, Sound}
+use Rattle.laws.specs.Verdicts.{OfSend}
+use Rattle.laws.proofs.Sound.{tests, going, sound}
+use Rattle.laws.proofs.Verdicts.{of-send}
 use Rattle.demands.specs.Types.{DescriptorIndex, Metadata, Descriptor, Header, Sending}
 use Rattle.demands.specs.Fields.{Below, Fields, word0, word1, word2, word3, layout, Within, Allowed, sentFields}
 use Rattle.demands.specs.Demands.{ReadAs, Sent}
-use Rattle.demands.proofs.Judged.{tests, Fit, fit}
-use Rattle.demands.proofs.Choices.{found-ready}
-use Rattle.demands.proofs.Verdicts.{OfSend, of-send}
 use Rattle.demands.proofs.Packed.{Made, laid-formed, plain-length, control0-made, none-fit}
 use Rattle.demands.proofs.AnyFields.{any-read}
 use Rattle.demands.proofs.read_back.Statement.{statement}
@@ -95,26 +96,19 @@ module _ (m : Machine) (words : Below (2 ^ 32) (m .send)) (inside : Below 256 (m
   module _ (size : length (m .send) ≡ 1024) (node : ownNode (m .saved .pcsr0) ≤ 4095) (rule : goRule d (d .control1) (d .bytestogo) (length (m .bytes)) ≡ true) where
     -- What the go rule lets be sent.
     payload : Payload p
-    unfolding p nextBytes nextPayload goRule messageSizeOk pick
+    unfolding p nextBytes nextPayload pick
     payload = go (isControlPkt (d .control1)) refl (isDirectIo (d .control1)) refl
       where
-        by : (x : Bool) → addressOk x (d .msgaddress) (d .bytestogo) (length (m .bytes)) ≡ true → d .bytestogo % 4 ≡ 0
+        by : (x : Bool) → isDirectIo (d .control1) ≡ x → Message d (d .control1) (d .bytestogo) (length (m .bytes))
             → Payload (pick x (toBytes (part (d .msgaddress / 4) (min 128 (d .bytestogo) / 4) (m .send))) (part (d .msgaddress) (min 128 (d .bytestogo)) (m .bytes)))
-        by true r z =
-            from-words (m .send) (m .bytes) words inside (d .msgaddress) (d .bytestogo) z (eqb-true (d .msgaddress % 4) 0 (search tests))
-            (omega (arith, size, leb-true (d .msgaddress + d .bytestogo) 4096 (search tests)))
-        by false r z =
-            from-data (m .send) (m .bytes) words inside (d .msgaddress) (d .bytestogo) z
-            (leb-true (d .msgaddress + d .bytestogo) (length (m .bytes)) (or-first (leb (d .msgaddress + d .bytestogo) (length (m .bytes))) false r refl))
+        by true f k =
+            from-words (m .send) (m .bytes) words inside (d .msgaddress) (d .bytestogo) (k .words) (k .direct f .whole) (omega (arith, size, k .direct f .most))
+        by false f k = from-data (m .send) (m .bytes) words inside (d .msgaddress) (d .bytestogo) (k .words) (k .bytes f)
 
         go : (c : Bool) → isControlPkt (d .control1) ≡ c → (x : Bool) → isDirectIo (d .control1) ≡ x
             → Payload (pick x (toBytes (part (d .msgaddress / 4) (pick c 0 (min 128 (d .bytestogo)) / 4) (m .send))) (part (d .msgaddress) (pick c 0 (min 128 (d .bytestogo))) (m .bytes)))
         go true e x f = pick-holds Payload x no-payload no-payload
-        go false e x f =
-            let ok : messageSizeOk d (d .control1) (d .bytestogo) (length (m .bytes)) ≡ true =
-            or-second (isControlPkt (d .control1)) (messageSizeOk d (d .control1) (d .bytestogo) (length (m .bytes))) (search tests) e in
-            let r : addressOk (isDirectIo (d .control1)) (d .msgaddress) (d .bytestogo) (length (m .bytes)) ≡ true = search tests in
-            by x (ap (λ (t : Bool). addressOk t (d .msgaddress) (d .bytestogo) (length (m .bytes))) (sym f) ∙ r) (eqb-true (d .bytestogo % 4) 0 (search tests))
+        go false e x f = by x f (going d (d .control1) (d .bytestogo) (length (m .bytes)) rule .message e)
 
     -- The fields are within their widths.
     within : Within f
@@ -185,25 +179,23 @@ module _ (m : Machine) (words : Below (2 ^ 32) (m .send)) (inside : Below 256 (m
 formed-read : (m : Machine) (i : DescriptorIndex) → Below (2 ^ 32) (m .send) → Below 256 (m .bytes) → isSized m ≡ true → isSound m ≡ true
     → i .0 < descriptors → isActive (descriptorAt (m .send) i) ≡ true → ReadAs (sentFields m (descriptorAt (m .send) i)) (packetFrom m i)
 unfolding d f
-formed-read m i words inside sized sound lt active =
-    let t : Fit m = fit m sized sound in
-    read m words inside i (t .send) (t .node) (t .goes (i .0) lt active)
+formed-read m i words inside sized ok lt active =
+    let t : Sound m = sound m sized ok in
+    read m words inside i (t .sized .send) (t .ranges .node) (t .active i lt active)
 
 -- By a send call's verdict: the packet stands at the start of the room.
-sent-by : (m : Machine) (room : List ℕ) (v : Sending) → Below (2 ^ 32) (m .send) → Below 256 (m .bytes) → OfSend m v
+sent-by : (m : Machine) (room : List ℕ) (v : Sending) → Below (2 ^ 32) (m .send) → Below 256 (m .bytes) → OfSend m (length room) v
     → actSend m room v .reply ≡ 0 → Sent m (actSend m room v)
-unfolding d f actSend over isReady
+unfolding d f actSend over
 sent-by m room (Sending.No why) words inside h z = absurd (h .done z)
 sent-by m room (Sending.Waits i) words inside h z = absurd (omega arith)
 sent-by m room (Sending.Sends i) words inside h z =
-    let t : Fit m = h .0 in
-    let r = found-ready (m .saved) (m .send) (m .receive) (h .1) in
     let p : List ℕ = packetFrom m i in
     let e : take (length p) (p ++ drop (length p) room) ≡ p = take-append-seam p (drop (length p) room) in
     record {
       descriptor = i;
-      chosen = h .1;
-      packet = rw e (read m words inside i (t .send) (t .node) (t .goes (i .0) (r .1) (and-left (isActive (descriptorAt (m .send) i)) _ (r .0))));
+      chosen = h .first;
+      packet = rw e (read m words inside i (h .sound .sized .send) (h .sound .ranges .node) (h .rule));
     }
 
 -- By the call.

@@ -3,7 +3,7 @@ use borrow.Author.Needs.{needs}
 use Rattle.ground.proofs.Choice.{judging}
 use Rattle.ground.proofs.Tests.{flag-yes}
 use Rattle.rules.specs.Calls.{gate}
-use Rattle.sound.proofs.Facts.{sized}
+use Rattle.laws.proofs.Sound.{sized}
 use Rattle.sound.proofs.gate.Statement.{statement}
 use Rattle.sound.proofs.gate.Tie as tie
 

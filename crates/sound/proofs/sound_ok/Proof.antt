@@ -7,8 +7,8 @@ use borrow.Author.Needs.{needs}
 use Rattle.ground.proofs.Tests.{and-right, flag-no, flag-yes}
 use Rattle.rules.specs.declared.Saved.{Saved}
 use Rattle.rules.specs.Sound.{registersOk, queuesOk, headsOk, placesOk, waitingOk, descriptorsOk, soundOk}
-use Rattle.sound.specs.Facts.{Ring}
-use Rattle.sound.proofs.Facts.{rings}
+use Rattle.laws.specs.Sound.{Ring}
+use Rattle.laws.proofs.Sound.{rings}
 use Rattle.sound.proofs.sound_ok.Statement.{statement}
 use Rattle.sound.proofs.sound_ok.Tie as tie
 

@@ -2,7 +2,7 @@
 use borrow.Author.Needs.{needs}
 use lib.ListN.{length}
 use Rattle.ground.proofs.Tests.{flag-yes}
-use Rattle.sound.proofs.Facts.{sized}
+use Rattle.laws.proofs.Sound.{sized}
 use Rattle.registers.proofs.Judged.{rams-asked, write-sizes, write-unsound, write-reached}
 use Rattle.registers.proofs.judging.judge_write.Statement.{statement}
 use Rattle.registers.proofs.judging.judge_write.Tie as tie

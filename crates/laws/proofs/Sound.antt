@@ -1,23 +1,22 @@
 -- The tests of sizes and soundness, as facts. Assumes nothing.
 use mathlib.Core.Path.{_≡_, refl}
+use mathlib.Core.Logic.{_≢_}
 use mathlib.Core.Bool.{Bool, true, false, not, _&&_, _||_}
-use mathlib.Core.List.{List}
 use Prim.Native.Nat.{ℕ, _+_, _%_, _≤_}
-use borrow.Author.Tests.{ltb-true, leb-true, eqb-true}
+use borrow.Author.Tests.{ltb-true, leb-true, eqb-true, ne-eqb}
 use lib.Dec.{eqb, ltb, leb}
 use lib.ListN.{length}
 use Rattle.ground.proofs.All.{all-at}
 use Rattle.ground.proofs.Tests.{and-left, and-right, or-first, or-second, not-no}
-use Rattle.rules.specs.declared.Descriptor.{Descriptor}
-use Rattle.rules.specs.declared.Saved.{Saved}
 use Rattle.rules.specs.Words.{noteIndex, isDirectIo, isControlPkt, notifies}
-use Rattle.rules.specs.Memory.{sizesOk, lists, directFrom, directTo, isBlock, isBlockOrNone}
+use Rattle.rules.specs.Memory.{Machine, sizesOk, lists, directFrom, directTo, isBlock, isBlockOrNone}
 use Rattle.rules.specs.Sending.{addressOk, messageSizeOk, goRule}
-use Rattle.rules.specs.Sound.{registersOk, queuesOk, headsOk, placesOk, waitingOk, descriptorOk, descriptorsOk, soundOk}
-use Rattle.sound.specs.Facts.{Ring, Block, Sized, Ranges, Direct, Message, Going, Sound}
+use Rattle.rules.specs.Sound.{isSized, isSound, registersOk, queuesOk, headsOk, placesOk, descriptorOk, descriptorsOk, soundOk}
+use Rattle.laws.specs.Types.{Descriptor, Saved}
+use Rattle.laws.specs.Sound.{Ring, Block, Sized, Ranges, Direct, Message, Going, Sound}
 
 -- A test of a chain, and what it says of numbers.
-ruleset tests = (and-left, and-right, ltb-true, leb-true, eqb-true)
+pub ruleset tests = (and-left, and-right, ltb-true, leb-true, eqb-true)
 
 -- The four lengths.
 pub sized : (send receive dataLength n : ℕ) → sizesOk send receive dataLength n ≡ true → Sized send receive dataLength n
@@ -38,8 +37,8 @@ pub is-block : (n a : ℕ) → isBlock n a ≡ true → Block n a
 is-block n a h = search tests depth 20
 
 -- A head or a place that is set is a block.
-pub set-block : (n a : ℕ) → isBlockOrNone n a ≡ true → eqb a 0 ≡ false → Block n a
-set-block n a h e = is-block n a (or-second (eqb a 0) (isBlock n a) h e)
+pub set-block : (n a : ℕ) → isBlockOrNone n a ≡ true → a ≢ 0 → Block n a
+set-block n a h e = is-block n a (or-second (eqb a 0) (isBlock n a) h (ne-eqb a 0 e))
 
 -- A message's bytes, in data memory or in DIO.
 module _ {direct : Bool} (address size dataLength : ℕ) (h : addressOk direct address size dataLength ≡ true) where
@@ -76,24 +75,21 @@ module _ (d : Descriptor) (control1 size dataLength : ℕ) where
       }
 
 -- A machine that is sized and sound.
-pub sound : (s : Saved) (send receive : List ℕ) (dataLength n : ℕ) → sizesOk (length send) (length receive) dataLength n ≡ true
-    → soundOk s send receive dataLength n ≡ true → Sound s send receive dataLength n
-unfolding soundOk headsOk placesOk waitingOk descriptorsOk descriptorOk
-sound s send receive dataLength n sizes h =
-    let registers : registersOk s ≡ true = search tests depth 20 in
-    let queues : queuesOk s ≡ true = search tests depth 20 in
-    let heads : headsOk receive n ≡ true = search tests depth 20 in
-    let places : placesOk receive n ≡ true = search tests depth 20 in
-    let waiting : waitingOk receive (s .nbqr) n ≡ true = search tests depth 20 in
-    let active : descriptorsOk send dataLength ≡ true = search tests depth 20 in
+pub sound : (m : Machine) → isSized m ≡ true → isSound m ≡ true → Sound m
+unfolding soundOk headsOk placesOk descriptorsOk descriptorOk
+sound m sizes h =
+    let registers : registersOk (m .saved) ≡ true = search tests depth 20 in
+    let queues : queuesOk (m .saved) ≡ true = search tests depth 20 in
+    let heads : headsOk (m .receive) (length (m .notices)) ≡ true = search tests depth 20 in
+    let places : placesOk (m .receive) (length (m .notices)) ≡ true = search tests depth 20 in
+    let active : descriptorsOk (m .send) (length (m .bytes)) ≡ true = search tests depth 20 in
     record {
-      sized = sized _ _ dataLength n sizes;
-      ranges = ranges s registers;
-      nqr = rings s queues .0;
-      aqr = rings s queues .1;
-      nbqr = rings s queues .2;
+      sized = sized _ _ _ _ sizes;
+      ranges = ranges (m .saved) registers;
+      nqr = rings (m .saved) queues .0;
+      aqr = rings (m .saved) queues .1;
+      nbqr = rings (m .saved) queues .2;
       heads = λ l low. all-at _ _ (l .0) low heads;
       places = λ l low. all-at _ _ (l .0) low places;
-      waiting = λ k low. is-block n _ (all-at _ _ k low waiting);
-      active = λ d low a. going _ _ _ dataLength (or-second _ _ (all-at _ _ (d .0) low active) (not-no a));
+      active = λ d low a. or-second _ _ (all-at _ _ (d .0) low active) (not-no a);
     }

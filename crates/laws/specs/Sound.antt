@@ -1,21 +1,15 @@
--- What is known of a machine that is sized and sound: the facts that acting needs. Assumes nothing.
+-- What is known of a machine that is sized and sound, and of a descriptor that keeps the go rule. Assumes nothing.
 use mathlib.Core.Path.{_≡_}
 use mathlib.Core.Bool.{true, false}
-use mathlib.Core.List.{List}
 use Prim.Native.Nat.{ℕ, _+_, _*_, _/_, _%_, _<_, _≤_}
-use lib.ListN.{length, getD}
-use Rattle.rules.specs.declared.Queue.{Queue}
-use Rattle.rules.specs.declared.Saved.{Saved}
-use Rattle.rules.specs.declared.ListIndex.{ListIndex}
-use Rattle.rules.specs.declared.DescriptorIndex.{DescriptorIndex}
-use Rattle.rules.specs.declared.Descriptor.{Descriptor}
+use lib.ListN.{length}
 use Rattle.rules.specs.Words.{most24, noteIndex, offset, isDirectIo, isControlPkt, notifies}
-use Rattle.rules.specs.Memory.{sendSize, receiveSize, dataMost, noticesMost, blockSize, queueSize, descriptors, slotsMost, lists}
-use Rattle.rules.specs.Memory.{directFrom, directTo, nbqrFrom, isBlockOrNone}
+use Rattle.rules.specs.Memory.{Machine, sendSize, receiveSize, dataMost, noticesMost, blockSize, queueSize, descriptors, slotsMost, lists}
+use Rattle.rules.specs.Memory.{directFrom, directTo, isBlockOrNone}
 use Rattle.rules.specs.Saved.{ownNode}
-use Rattle.rules.specs.Queues.{entryWord}
 use Rattle.rules.specs.Notices.{headOf, placeOf}
-use Rattle.rules.specs.Sending.{descriptorAt, isActive}
+use Rattle.rules.specs.Sending.{descriptorAt, isActive, goRule}
+use Rattle.laws.specs.Types.{Queue, Saved, ListIndex, DescriptorIndex, Descriptor}
 
 -- A queue whose entries lie in its 256 words.
 pub record Ring (q : Queue) : Type 0 where
@@ -29,8 +23,8 @@ pub record Pointer (n p : ℕ) : Type 0 where
 
 -- A block of a notice memory of n words.
 pub record Block (n a : ℕ) : Type 0 where
-  pub whole : a % 32 ≡ 0
-  pub set : 32 ≤ a
+  pub aligned : a % 32 ≡ 0
+  pub low : 32 ≤ a
   pub inside : a / 4 + blockSize ≤ n
 
 -- The four lengths.
@@ -70,15 +64,18 @@ pub record Going (d : Descriptor) (control1 size dataLength : ℕ) : Type 0 wher
   pub note : notifies control1 ≡ true → noteIndex (d .address1) < lists
   pub message : isControlPkt control1 ≡ false → Message d control1 size dataLength
 
+-- Descriptor d of a machine.
+abbrev pub theDescriptor : Machine → DescriptorIndex → Descriptor
+theDescriptor m d = descriptorAt (m .send) d
+
 -- What a call knows of its machine past the gate.
-pub record Sound (s : Saved) (send receive : List ℕ) (dataLength n : ℕ) : Type 0 where
-  pub sized : Sized (length send) (length receive) dataLength n
-  pub ranges : Ranges s
-  pub nqr : Ring (s .nqr)
-  pub aqr : Ring (s .aqr)
-  pub nbqr : Ring (s .nbqr)
-  pub heads : (l : ListIndex) → l .0 < lists → isBlockOrNone n (headOf receive l) ≡ true
-  pub places : (l : ListIndex) → l .0 < lists → isBlockOrNone n (placeOf receive l) ≡ true
-  pub waiting : (k : ℕ) → k < s .nbqr .length → Block n (getD receive (entryWord nbqrFrom (s .nbqr) k) 0)
-  pub active : (d : DescriptorIndex) → d .0 < descriptors → isActive (descriptorAt send d) ≡ true
-      → Going (descriptorAt send d) (descriptorAt send d .control1) (descriptorAt send d .bytestogo) dataLength
+pub record Sound (m : Machine) : Type 0 where
+  pub sized : Sized (length (m .send)) (length (m .receive)) (length (m .bytes)) (length (m .notices))
+  pub ranges : Ranges (m .saved)
+  pub nqr : Ring (m .saved .nqr)
+  pub aqr : Ring (m .saved .aqr)
+  pub nbqr : Ring (m .saved .nbqr)
+  pub heads : (l : ListIndex) → l .0 < lists → isBlockOrNone (length (m .notices)) (headOf (m .receive) l) ≡ true
+  pub places : (l : ListIndex) → l .0 < lists → isBlockOrNone (length (m .notices)) (placeOf (m .receive) l) ≡ true
+  pub active : (d : DescriptorIndex) → d .0 < descriptors → isActive (theDescriptor m d) ≡ true
+      → goRule (theDescriptor m d) (theDescriptor m d .control1) (theDescriptor m d .bytestogo) (length (m .bytes)) ≡ true
