@@ -3,7 +3,7 @@ use mathlib.Core.Path.{_≡_, refl, sym, ap, _∙_}
 use mathlib.Core.Logic.{_⊎_}
 use mathlib.Core.Bool.{Bool, true, false}
 use mathlib.Core.List.{List}
-use Prim.Native.Nat.{ℕ, _+_, _^_, _<_}
+use Prim.Native.Nat.{ℕ, _+_}
 use native.Mathlib.Nat.{zero-add, add-zero}
 use native.Mathlib.Omega.{arith}
 use denote.Enum.Declared.{tagOf}
@@ -89,10 +89,6 @@ module _ (p : Packet) (r : Receipt) (s : Saved) (receive : List ℕ) (i : SlotIn
   -- What is known of it.
   pub entry-knows : Enterable p r s receive → Known p (Receipt.Lands i v)
   entry-knows a = rw e at (a .storable .known)
-
-  -- It is a word.
-  pub entry-small : Enterable p r s receive → aqrEntry i < 2 ^ 32
-  entry-small a = omega (arith, a .storable .known .lands i v e .low)
 
   -- It is pushed where it is needed.
   pub entry-asks : (needed : Bool) → Enterable p r s receive → needed ≡ needsAqr p (Receipt.Lands i v) → needed ≡ true → Pushable (s .aqr) receive
