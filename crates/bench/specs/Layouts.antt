@@ -11,6 +11,7 @@ use Rattle.rules.specs.declared.SlotIndex.{SlotIndex}
 use Rattle.rules.specs.declared.Descriptor.{Descriptor}
 use Rattle.rules.specs.declared.Slot.{Slot}
 use Rattle.rules.specs.declared.Header.{Header}
+use Rattle.rules.specs.declared.Fault.{Fault}
 use Rattle.rules.specs.Words.{dstNode, dstSlot, noteIndex, srcNode, zeroLow, slotAndSource, usesMsgSize, usesMsgOffset, isAckPkt, reservedBit, incarnation, offset, isDirectIo, isControlPkt, notifies, goes, zeroTop, metaFlag, metaCount, msgSize, metaPart, most24, checkHalf}
 use Rattle.rules.specs.Memory.{noMetadata}
 use Rattle.rules.specs.Saved.{resets, enables, reservedBits, ownIncarnation, ownNode, withoutReset}
@@ -21,7 +22,7 @@ use Rattle.rules.specs.Checksum.{checkOf}
 use Rattle.rules.specs.Packet.{checkWord, packetOf}
 use Rattle.rules.specs.Slots.{slotNoteIndex, validBit, indirectBit, doesAcks, slotNotifies, slotReserve, ackNoteIndex}
 use Rattle.rules.specs.Notices.{token, enqueues}
-use Rattle.rules.specs.Receipt.{messageNotice, ackNotice, faultNotice}
+use Rattle.rules.specs.Receipt.{faultStatus, messageNotice, ackNotice, faultNotice}
 
 pub record Layouts : Type 0 where
   -- "PCSR0: reset 1, enable 1, reserved 10, incarnation 4, node 16"
@@ -76,6 +77,6 @@ pub record Layouts : Type 0 where
   pub ack-word1 : (i : SlotIndex) (h : Header) → ackNotice i h .word1 ≡ pack (2 ∷ 1 ∷ 1 ∷ 4 ∷ 24 ∷ []) (0 ∷ 1 ∷ 0 ∷ incarnation (h .control0) ∷ offset (h .control0) ∷ [])
   pub ack-word2 : (i : SlotIndex) (h : Header) → unpack (4 ∷ 1 ∷ 3 ∷ 24 ∷ []) (ackNotice i h .word2) ≡ zeroTop (h .control1) ∷ bit (metaFlag (h .control1)) ∷ metaCount (h .control1) ∷ msgSize (h .control1) ∷ []
   -- "Fault, on list 0: slot 16, status 16; 0; dst_node 16, src_node 16"
-  pub fault-word0 : (h : Header) (status : ℕ) → faultNotice h status .word0 ≡ pack (16 ∷ 16 ∷ []) (dstSlot (h .address1) ∷ status ∷ [])
-  pub fault-word1 : (h : Header) (status : ℕ) → faultNotice h status .word1 ≡ 0
-  pub fault-word2 : (h : Header) (status : ℕ) → faultNotice h status .word2 ≡ pack (16 ∷ 16 ∷ []) (dstNode (h .address0) ∷ srcNode (h .address1) ∷ [])
+  pub fault-word0 : (h : Header) (f : Fault) → faultNotice h f .word0 ≡ pack (16 ∷ 16 ∷ []) (dstSlot (h .address1) ∷ faultStatus f ∷ [])
+  pub fault-word1 : (h : Header) (f : Fault) → faultNotice h f .word1 ≡ 0
+  pub fault-word2 : (h : Header) (f : Fault) → faultNotice h f .word2 ≡ pack (16 ∷ 16 ∷ []) (dstNode (h .address0) ∷ srcNode (h .address1) ∷ [])

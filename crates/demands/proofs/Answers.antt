@@ -42,9 +42,9 @@ write-answered m r v (Writing.StoresReceive w) h = done refl
 receive-answered : (m : Machine) (packet : List ℕ) (r : Receiving) → OfReceive m packet r → Answered m [] (actReceive m packet r)
 unfolding actReceive
 receive-answered m packet (Receiving.No why) h = refusal why h refl
-receive-answered m packet (Receiving.ComesTo (Receipt.Fails status)) h = fault refl
-receive-answered m packet (Receiving.ComesTo (Receipt.Acks i)) h = done refl
-receive-answered m packet (Receiving.ComesTo (Receipt.Lands i)) h = done refl
+receive-answered m packet (Receiving.ComesTo p (Receipt.Fails f)) h = fault refl
+receive-answered m packet (Receiving.ComesTo p (Receipt.Acks i v)) h = done refl
+receive-answered m packet (Receiving.ComesTo p (Receipt.Lands i v)) h = done refl
 
 send-answered : (m : Machine) (room : List ℕ) (s : Sending) → OfSend m (length room) s → Answered m room (actSend m room s)
 unfolding actSend

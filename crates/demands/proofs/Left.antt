@@ -15,7 +15,7 @@ use Rattle.rules.specs.Saved.{withLastSender}
 use Rattle.rules.specs.Queues.{hasRoom}
 use Rattle.rules.specs.Board.{Board, board, onReceive}
 use Rattle.rules.specs.Notices.{enqueues, pushAqr, canPostAll, takeBlock}
-use Rattle.rules.specs.Packet.{packetOf, payloadOf}
+use Rattle.rules.specs.Packet.{payloadOf}
 use Rattle.rules.specs.Receipt.{receiptPosting, needsAqr, hasRoomFor, slotStored, payloadStored, aqrEntry, aqrStored, countedBy, receivedOnBoard, received}
 use Rattle.rules.specs.Replies.{refusalNumber, replyNumber}
 use Rattle.rules.specs.Sending.{descriptorAt, started, sendPosting, afterPacket}
@@ -34,7 +34,6 @@ use Rattle.demands.proofs.Sums.{same, same-other, sum-append}
 use Rattle.demands.proofs.Sight.{Quiet, quiet-then}
 use Rattle.demands.proofs.Descriptors.{Rules, store-length, mark-length, direct-rules, word-rules, start-rules, sent-rules, mark-rules}
 use Rattle.demands.proofs.Numbers.{Numbers, sender-set, counts-set, step-numbers, shown-numbers, number-numbers, aqr-numbers, nbqr-numbers, push-length, TokenFits, token-fits, post-numbers, post-length}
-use Rattle.demands.proofs.Choices.{OfReceipt, of-receipt, receipt-listed}
 use Rattle.demands.proofs.Steps.{slot-quiet, aqr-quiet}
 use Rattle.demands.proofs.Good.{tally, Good}
 
@@ -100,32 +99,32 @@ token-quiet Posting.Silent q e on h = tt
 token-quiet (Posting.On l n) q e on h = λ t. rw e (h (sym (ap enqueues (q .token l (on .low l n refl))) ∙ t))
 
 -- An AQR entry, where one is needed and has room.
-aqr-left : {t f : ℕ} (receive : List ℕ) (p : Packet) (r : Receipt) (b : Board) → (needsAqr receive p r ≡ true → b .saved .aqr .length < 256) → Numbers t f (b .saved)
-    → (aqrStored receive p r b .saved .nqr ≡ b .saved .nqr) × Numbers t f (aqrStored receive p r b .saved)
+aqr-left : {t f : ℕ} (p : Packet) (r : Receipt) (b : Board) → (needsAqr p r ≡ true → b .saved .aqr .length < 256) → Numbers t f (b .saved)
+    → (aqrStored p r b .saved .nqr ≡ b .saved .nqr) × Numbers t f (aqrStored p r b .saved)
 unfolding aqrStored pushAqr
-aqr-left receive p (Receipt.Fails status) b room f = (refl, f)
-aqr-left receive p (Receipt.Acks i) b room f = (refl, f)
-aqr-left {t} {f = n} receive p (Receipt.Lands i) b room f =
-    pick-by (λ (x : Board). (x .saved .nqr ≡ b .saved .nqr) × Numbers t n (x .saved)) (needsAqr receive p (Receipt.Lands i))
+aqr-left p (Receipt.Fails why) b room f = (refl, f)
+aqr-left p (Receipt.Acks i v) b room f = (refl, f)
+aqr-left {t} {f = n} p (Receipt.Lands i v) b room f =
+    pick-by (λ (x : Board). (x .saved .nqr ≡ b .saved .nqr) × Numbers t n (x .saved)) (needsAqr p (Receipt.Lands i v))
     (λ e. (refl, aqr-numbers (aqrEntry i) b (room e) f)) (λ e. (refl, f))
 
 -- Its count, with the answer.
 counted-numbers : (r : Receipt) (xs : List ℕ) (s : Saved) → Numbers (tally 0 xs) (tally 9 xs) s
     → let ys = xs ++ (replyNumber (receiptReply r) ∷ []) in Numbers (tally 0 ys) (tally 9 ys) (countedBy r s)
 unfolding countedBy
-counted-numbers (Receipt.Fails status) xs s f =
+counted-numbers (Receipt.Fails why) xs s f =
     counts-set s f _ _ (omega (arith, f .taken, sum-append (same 0) xs (9 ∷ []))) (omega (arith, f .faulted, sum-append (same 9) xs (9 ∷ [])))
-counted-numbers (Receipt.Acks i) xs s f =
+counted-numbers (Receipt.Acks i v) xs s f =
     counts-set s f _ _ (omega (arith, f .taken, sum-append (same 0) xs (0 ∷ []))) (omega (arith, f .faulted, sum-append (same 9) xs (0 ∷ [])))
-counted-numbers (Receipt.Lands i) xs s f =
+counted-numbers (Receipt.Lands i v) xs s f =
     counts-set s f _ _ (omega (arith, f .taken, sum-append (same 0) xs (0 ∷ []))) (omega (arith, f .faulted, sum-append (same 9) xs (0 ∷ [])))
 
 -- The payload keeps the length of data memory.
-payload-length : (receive packet : List ℕ) (r : Receipt) (bytes : List ℕ) → length (payloadStored receive packet r bytes) ≡ length bytes
+payload-length : (packet : List ℕ) (p : Packet) (r : Receipt) (bytes : List ℕ) → length (payloadStored packet p r bytes) ≡ length bytes
 unfolding payloadStored
-payload-length receive packet (Receipt.Fails status) bytes = refl
-payload-length receive packet (Receipt.Acks i) bytes = refl
-payload-length receive packet (Receipt.Lands i) bytes = length-sets bytes _ (payloadOf packet)
+payload-length packet p (Receipt.Fails f) bytes = refl
+payload-length packet p (Receipt.Acks i v) bytes = refl
+payload-length packet p (Receipt.Lands i v) bytes = length-sets bytes _ (payloadOf packet)
 
 -- A receipt: the slot, the AQR entry, the posting, the count.
 receive-left : (xs : List ℕ) (m : Machine) (packet : List ℕ) (r : Receiving) → OfReceive m packet r → Good xs m
@@ -138,28 +137,25 @@ receive-left xs m packet (Receiving.No why) h g =
     (counts-set (m .saved) f _ _
     (omega (arith, f .taken, sum-append (same 0) xs (n ∷ []), same-other 0 n (λ e. h .done (sym e))))
     (omega (arith, f .faulted, sum-append (same 9) xs (n ∷ []), same-other 9 n (λ e. h .fault (sym e)))))
-receive-left xs m packet (Receiving.ComesTo r) h g =
-    let p : Packet = packetOf packet in
-    let n : ℕ = length (m .bytes) in
-    let post : Posting = receiptPosting (m .receive) p r in
+receive-left xs m packet (Receiving.ComesTo p r) h g =
+    let post : Posting = receiptPosting p r in
     let b : Board = board (m .saved) (m .receive) (m .notices) 0 in
     let b₁ : Board = onReceive (slotStored p r) b in
-    let b₂ : Board = aqrStored (m .receive) p r b₁ in
-    let o : OfReceipt (m .saved) (m .receive) n r = rw (h .is) (of-receipt (m .saved) (m .receive) n packet) in
-    let q : Quiet b b₂ = quiet-then (slot-quiet n p r b o (h .sound .ranges .slots)) (aqr-quiet (m .receive) p r b₁) in
+    let b₂ : Board = aqrStored p r b₁ in
+    let q : Quiet b b₂ = quiet-then (slot-quiet (length (m .bytes)) p r b (h .says) (h .sound .ranges .slots)) (aqr-quiet p r b₁) in
     let can : Bool = canPostAll (m .saved) (m .receive) post in
-    let aqr : Bool = not (needsAqr (m .receive) p r) || hasRoom (m .saved .aqr) in
-    let room : needsAqr (m .receive) p r ≡ true → m .saved .aqr .length < 256 =
-    λ e. ltb-true (m .saved .aqr .length) 256 (or-second (not (needsAqr (m .receive) p r)) (hasRoom (m .saved .aqr)) (and-right can aqr (h .room)) (not-no e)) in
-    let a = aqr-left (m .receive) p r b₁ room (g .numbers) in
+    let aqr : Bool = not (needsAqr p r) || hasRoom (m .saved .aqr) in
+    let room : needsAqr p r ≡ true → m .saved .aqr .length < 256 =
+    λ e. ltb-true (m .saved .aqr .length) 256 (or-second (not (needsAqr p r)) (hasRoom (m .saved .aqr)) (and-right can aqr (h .room)) (not-no e)) in
+    let a = aqr-left p r b₁ room (g .numbers) in
     record {
       send = refl;
       receive = post-length post b₂ ∙ q .alike .size;
-      bytes = payload-length (m .receive) packet r (m .bytes);
+      bytes = payload-length packet p r (m .bytes);
       numbers =
           counted-numbers r xs _
           (post-numbers post b₂
-          (token-quiet post q (a .0) (receipt-listed (m .saved) (m .receive) n p r o) (token-fits (m .saved) (m .receive) post (and-left can aqr (h .room)))) (a .1));
+          (token-quiet post q (a .0) (h .listed) (token-fits (m .saved) (m .receive) post (and-left can aqr (h .room)))) (a .1));
       rules = g .rules;
     }
 

@@ -2,7 +2,6 @@
 -- ---- a call: what its verdict says, and how it answers
 pub mod Access
 pub mod Reset
-pub mod Choices
 pub mod Answers
 -- ---- packets
 pub mod Packets

@@ -14,14 +14,14 @@ use Rattle.rules.specs.Memory.{Machine, list, block, lists, headWord, tokenWord
 use Rattle.rules.specs.Saved.{withLastSender}
 use Rattle.rules.specs.Board.{Board, board, onReceive}
 use Rattle.rules.specs.Notices.{placeOf, pushNbqr, canPostAll, postAll}
-use Rattle.rules.specs.Packet.{packetOf}
-use Rattle.rules.specs.Slots.{slotAt, slotWords, storeSlot}
+use Rattle.rules.specs.Slots.{slotWords, storeSlot}
 use Rattle.rules.specs.Receipt.{slotAfter, receiptPosting, hasRoomFor, slotStored, aqrEntry, aqrStored, countedBy, receivedOnBoard, received}
 use Rattle.rules.specs.Sending.{descriptorAt, sendPosting}
 use Rattle.rules.specs.Registers.{decode, stepped, shownItself}
 use Rattle.rules.specs.Writes.{bitsCleared, numberSet, receiveStored}
 use Rattle.rules.specs.Calls.{Call, writes, reads, receives, sends, takes, unknown, perform, unknownCall, judgeRead, readDone, actRead, readCall, judgeWrite, writeDone, actWrite, writeCall, judgeReceive, actReceive, receiveCall, judgeSend, sent, actSend, sendCall, judgeTake, wordsOf, actTake, takeCall}
 use Rattle.laws.specs.Sound.{Block}
+use Rattle.laws.specs.Receipts.{OfReceipt}
 use Rattle.laws.specs.Verdicts.{OfReceive, OfSend, OfTake}
 use Rattle.laws.specs.Writing.{OfReceiveStore, OfWrite}
 use Rattle.laws.proofs.Verdicts.{of-receive, of-send, of-take}
@@ -35,7 +35,6 @@ use Rattle.demands.proofs.Chain.{not-bare}
 use Rattle.demands.proofs.View.{View, opened}
 use Rattle.demands.proofs.Ring.{entry, entries-same}
 use Rattle.demands.proofs.Sight.{below-at, below-upd, seen, view, alike-then, alike-set, alike-slots, seen-alike, Quiet, quiet-same, quiet-then, quiet-aqr}
-use Rattle.demands.proofs.Choices.{OfReceipt, of-receipt, receipt-listed}
 use Rattle.demands.proofs.Boards.{Step, heads, places, push-view, take-view, post-step}
 
 -- A call that leaves the view.
@@ -130,43 +129,40 @@ slot-stored b i v lt =
       notices = refl;
     }
 
-pub slot-quiet : (n : ℕ) (p : Packet) (r : Receipt) (b : Board) → OfReceipt (b .saved) (b .receive) n r → b .saved .slots ≤ 64
+pub slot-quiet : (n : ℕ) (p : Packet) (r : Receipt) (b : Board) → OfReceipt (b .saved) (b .receive) n p r → b .saved .slots ≤ 64
     → Quiet b (onReceive (slotStored p r) b)
 unfolding slotStored
-slot-quiet n p (Receipt.Fails status) b h few = quiet-same b
-slot-quiet n p (Receipt.Acks i) b h few = quiet-same b
-slot-quiet n p (Receipt.Lands i) b h few = slot-stored b i (slotAfter p (slotAt (b .receive) i)) (omega arith)
+slot-quiet n p (Receipt.Fails f) b h few = quiet-same b
+slot-quiet n p (Receipt.Acks i v) b h few = quiet-same b
+slot-quiet n p (Receipt.Lands i v) b h few = slot-stored b i (slotAfter p v) (omega (arith, h .0 .low))
 
-pub aqr-quiet : (receive : List ℕ) (p : Packet) (r : Receipt) (b : Board) → Quiet b (aqrStored receive p r b)
+pub aqr-quiet : (p : Packet) (r : Receipt) (b : Board) → Quiet b (aqrStored p r b)
 unfolding aqrStored
-aqr-quiet receive p (Receipt.Fails status) b = quiet-same b
-aqr-quiet receive p (Receipt.Acks i) b = quiet-same b
-aqr-quiet receive p (Receipt.Lands i) b = pick-holds (Quiet b) _ (quiet-aqr (aqrEntry i) b) (quiet-same b)
+aqr-quiet p (Receipt.Fails f) b = quiet-same b
+aqr-quiet p (Receipt.Acks i v) b = quiet-same b
+aqr-quiet p (Receipt.Lands i v) b = pick-holds (Quiet b) _ (quiet-aqr (aqrEntry i) b) (quiet-same b)
 
 -- A count leaves NBQR.
 counted-queue : (r : Receipt) (s : Saved) → countedBy r s .nbqr ≡ s .nbqr
 unfolding countedBy
-counted-queue (Receipt.Fails status) s = refl
-counted-queue (Receipt.Acks i) s = refl
-counted-queue (Receipt.Lands i) s = refl
+counted-queue (Receipt.Fails f) s = refl
+counted-queue (Receipt.Acks i v) s = refl
+counted-queue (Receipt.Lands i v) s = refl
 
 -- A receipt.
 receive-step : (m : Machine) (packet : List ℕ) (r : Receiving) → OfReceive m packet r
-    → Step (receivingAct m packet r) (view m) (view (actReceive m packet r .machine))
+    → Step (receivingAct r) (view m) (view (actReceive m packet r .machine))
 unfolding receivingAct actReceive received receivedOnBoard hasRoomFor
 receive-step m packet (Receiving.No why) h = rest refl
-receive-step m packet (Receiving.ComesTo r) h =
-    let p : Packet = packetOf packet in
-    let n : ℕ = length (m .bytes) in
+receive-step m packet (Receiving.ComesTo p r) h =
     let b : Board = board (m .saved) (m .receive) (m .notices) 0 in
     let b₁ : Board = onReceive (slotStored p r) b in
-    let b₂ : Board = aqrStored (m .receive) p r b₁ in
-    let o : OfReceipt (m .saved) (m .receive) n r = rw (h .is) (of-receipt (m .saved) (m .receive) n packet) in
-    rw (counted-queue r (postAll (receiptPosting (m .receive) p r) b₂ .saved))
-    (post-step (receiptPosting (m .receive) p r) b b₂
-    (quiet-then (slot-quiet n p r b o (h .sound .ranges .slots)) (aqr-quiet (m .receive) p r b₁))
-    (receipt-listed (m .saved) (m .receive) n p r o)
-    (and-left (canPostAll (m .saved) (m .receive) (receiptPosting (m .receive) p r)) _ (h .room)) (h .sound .nbqr .place) (h .sound .sized .receive))
+    let b₂ : Board = aqrStored p r b₁ in
+    rw (counted-queue r (postAll (receiptPosting p r) b₂ .saved))
+    (post-step (receiptPosting p r) b b₂
+    (quiet-then (slot-quiet (length (m .bytes)) p r b (h .says) (h .sound .ranges .slots)) (aqr-quiet p r b₁))
+    (h .listed)
+    (and-left (canPostAll (m .saved) (m .receive) (receiptPosting p r)) _ (h .room)) (h .sound .nbqr .place) (h .sound .sized .receive))
 
 -- ---- sends
 

@@ -2,7 +2,6 @@
 use Rattle.ground.specs.Choice.{pick}
 use Rattle.rules.specs.Types.{ℕ, List, eqb, length, getD}
 use Rattle.rules.specs.Memory.{Machine, withBytes, metadataAt}
-use Rattle.rules.specs.Packet.{packetOf}
 use Rattle.rules.specs.Receipt.{receiptPosting}
 use Rattle.rules.specs.Sending.{descriptorAt, sendPosting}
 use Rattle.rules.specs.Calls.{Call, writes, reads, receives, sends, takes, unknown, perform, judgeWrite, judgeReceive, judgeSend, judgeTake}
@@ -74,9 +73,9 @@ postingAct Posting.Silent = rests
 postingAct (Posting.On l n) = posts l n
 
 -- A receipt.
-unfoldable pub receivingAct : Machine → List ℕ → Receiving → Act
-receivingAct m packet (Receiving.No why) = rests
-receivingAct m packet (Receiving.ComesTo r) = postingAct (receiptPosting (m .receive) (packetOf packet) r)
+unfoldable pub receivingAct : Receiving → Act
+receivingAct (Receiving.No why) = rests
+receivingAct (Receiving.ComesTo p r) = postingAct (receiptPosting p r)
 
 -- A send.
 unfoldable pub sendingAct : Machine → Sending → Act
@@ -97,7 +96,7 @@ takingAct room (Taking.Takes l b next) = gets l (noticeIn room)
 unfoldable pub act : Call → Machine → Act
 act (writes a v) m = writingAct (judgeWrite m a v)
 act (reads a) m = rests
-act (receives packet) m = receivingAct m packet (judgeReceive m packet)
+act (receives packet) m = receivingAct (judgeReceive m packet)
 act (sends ready room) m = sendingAct m (judgeSend m ready (length room))
 act (takes l room) m = takingAct (perform (takes l room) m .room) (judgeTake m l (length room))
 act unknown m = rests

@@ -22,6 +22,6 @@ pub fn receive(
 {
     match receiver::judge_receive(s, send, receive, bytes, notices, packet) {
         Receiving::No(why) => refuse(s, why),
-        Receiving::ComesTo(r) => receiver::act_receive(r, s, receive, bytes, notices, packet),
+        Receiving::ComesTo(p, r) => receiver::act_receive(p, r, s, receive, bytes, notices, packet),
     }
 }

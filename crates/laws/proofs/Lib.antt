@@ -2,6 +2,7 @@
 pub mod Sound
 pub mod Gate
 pub mod Postings
+pub mod Receipts
 pub mod Verdicts
 pub mod Reading
 pub mod Writing

@@ -12,10 +12,10 @@ use Rattle.ground.proofs.Choice.{pick-holds, pick-by, need-holds}
 use Rattle.ground.proofs.Tests.{and-left, and-right}
 use Rattle.rules.specs.Memory.{Machine, descriptors, descriptor, lists, list, block, nextOf}
 use Rattle.rules.specs.Notices.{placeOf}
-use Rattle.rules.specs.Packet.{packetMost}
+use Rattle.rules.specs.Packet.{packetMost, packetOf}
 use Rattle.rules.specs.Sending.{isActive, goRule, isReady, firstFrom, nextSender}
 use Rattle.rules.specs.Replies.{refusalNumber}
-use Rattle.rules.specs.Calls.{gate, judgeReceive, sendingOf, judgeSend, judgeTake}
+use Rattle.rules.specs.Calls.{gate, receipt, judgeReceive, sendingOf, judgeSend, judgeTake}
 use Rattle.rules.specs.declared.Refusal.the-variants.{NoRegister}
 use Rattle.laws.specs.Types.{DescriptorIndex, Descriptor, Receiving, Found, Sending, Taking}
 use Rattle.laws.specs.Sound.{theDescriptor, Sound}
@@ -23,6 +23,7 @@ use Rattle.laws.specs.Verdicts.{badNext, Refuses, OfReceive, Chosen, OfS
 use Rattle.laws.proofs.Sound.{is-block, set-block}
 use Rattle.laws.proofs.Gate.{plain, unfit, gate-holds}
 use Rattle.laws.proofs.Postings.{send-listed}
+use Rattle.laws.proofs.Receipts.{of-receipt, receipt-listed}
 
 -- An unknown call.
 pub of-unknown : (m : Machine) → Refuses m (refusalNumber (gate (λ why. why) m NoRegister))
@@ -36,7 +37,17 @@ of-receive m packet =
     gate-holds Receiving.No m P (λ why r. r) λ f.
     need-holds P _ (λ e. plain (omega arith)) λ on.
     need-holds P _ (λ e. plain (omega arith)) λ whole.
-    need-holds P _ (λ e. plain (omega arith)) λ room. record { sound = f; whole = whole; is = refl; room = room }
+    need-holds P _ (λ e. plain (omega arith)) λ room.
+    let says = of-receipt (m .saved) (m .receive) (length (m .bytes)) packet in
+    record {
+      sound = f;
+      whole = whole;
+      read = refl;
+      is = refl;
+      says = says;
+      listed = receipt-listed (m .saved) (m .receive) (length (m .bytes)) (packetOf packet) (receipt m packet) says;
+      room = room;
+    }
 
 -- ---- send
 

@@ -2,5 +2,6 @@
 pub mod Types
 pub mod Sound
 pub mod Postings
+pub mod Receipts
 pub mod Verdicts
 pub mod Writing

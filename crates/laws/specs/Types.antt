@@ -6,6 +6,8 @@ pub use Rattle.rules.specs.declared.ListIndex.{ListIndex}
 pub use Rattle.rules.specs.declared.BlockAddress.{BlockAddress}
 pub use Rattle.rules.specs.declared.DescriptorIndex.{DescriptorIndex}
 pub use Rattle.rules.specs.declared.Descriptor.{Descriptor}
+pub use Rattle.rules.specs.declared.Slot.{Slot}
+pub use Rattle.rules.specs.declared.Packet.{Packet}
 pub use Rattle.rules.specs.declared.Notice.{Notice}
 pub use Rattle.rules.specs.declared.Posting.{Posting}
 pub use Rattle.rules.specs.declared.Refusal.{Refusal}

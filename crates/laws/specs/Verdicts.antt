@@ -8,14 +8,15 @@ use lib.ListN.{length}
 use Rattle.rules.specs.Memory.{Machine, sendSize, receiveSize, descriptors, lists, list, queueSize, blockSize, block, isBlock, nextOf}
 use Rattle.rules.specs.Notices.{placeOf, canPostAll}
 use Rattle.rules.specs.Packet.{packetMost, isPacket, packetOf}
-use Rattle.rules.specs.Receipt.{hasRoomFor}
+use Rattle.rules.specs.Receipt.{receiptPosting, hasRoomFor}
 use Rattle.rules.specs.Sending.{goRule, sendPosting, nextSender}
 use Rattle.rules.specs.Sound.{isSized, isSound}
 use Rattle.rules.specs.Replies.{refusalNumber}
 use Rattle.rules.specs.Calls.{receipt}
-use Rattle.laws.specs.Types.{ListIndex, BlockAddress, DescriptorIndex, Reach, Receipt, Receiving, Found, Sending, Taking}
+use Rattle.laws.specs.Types.{ListIndex, BlockAddress, DescriptorIndex, Packet, Reach, Receipt, Receiving, Found, Sending, Taking}
 use Rattle.laws.specs.Sound.{Block, theDescriptor, Sound}
 use Rattle.laws.specs.Postings.{Listed}
+use Rattle.laws.specs.Receipts.{OfReceipt}
 
 -- ---- refusals
 
@@ -50,16 +51,19 @@ OfRead m (Reach.InReceive i) = Sound m × (i < receiveSize)
 
 -- ---- receive
 
--- A packet that is taken: what it comes to, and that there is room for it.
-pub record Comes (m : Machine) (packet : List ℕ) (r : Receipt) : Type 0 where
+-- A packet that is taken: as it is read, what it comes to and what that says, and that there is room for it.
+pub record Comes (m : Machine) (packet : List ℕ) (p : Packet) (r : Receipt) : Type 0 where
   pub sound : Sound m
   pub whole : isPacket packet ≡ true
+  pub read : p ≡ packetOf packet
   pub is : r ≡ receipt m packet
-  pub room : hasRoomFor (m .saved) (m .receive) (packetOf packet) r ≡ true
+  pub says : OfReceipt (m .saved) (m .receive) (length (m .bytes)) p r
+  pub listed : Listed (receiptPosting p r)
+  pub room : hasRoomFor (m .saved) (m .receive) p r ≡ true
 
 abbrev pub OfReceive : Machine → List ℕ → Receiving → Type 0
 OfReceive m packet (Receiving.No why) = Refuses m (refusalNumber why)
-OfReceive m packet (Receiving.ComesTo r) = Comes m packet r
+OfReceive m packet (Receiving.ComesTo p r) = Comes m packet p r
 
 -- ---- send
 

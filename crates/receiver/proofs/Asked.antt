@@ -10,6 +10,7 @@ use lib.ListN.{length}
 use Rattle.ground.specs.Choice.{need}
 use Rattle.ground.proofs.Choice.{go-on}
 use Rattle.ground.proofs.Tests.{not-yes}
+use Rattle.rules.specs.declared.Fault.{Fault}
 use Rattle.rules.specs.declared.Packet.{Packet}
 use Rattle.rules.specs.declared.Receipt.{Receipt}
 use Rattle.rules.specs.declared.Saved.{Saved}
@@ -18,21 +19,21 @@ use Rattle.rules.specs.declared.SlotIndex.{SlotIndex}
 use Rattle.rules.specs.Words.{dstNode, dstSlot, isAckPkt, incarnation, offset}
 use Rattle.rules.specs.Memory.{receiveSize, slotsMost, slot}
 use Rattle.rules.specs.Saved.{ownIncarnation, ownNode}
-use Rattle.rules.specs.Packet.{packetOf, headerChecks, fieldsOk, bodyChecks}
+use Rattle.rules.specs.Packet.{headerChecks, fieldsOk, bodyChecks}
 use Rattle.rules.specs.Slots.{slotAt, slotOk, within24}
 use Rattle.rules.specs.Receipt.{newBytesToGo, receiptOf}
+use Rattle.laws.proofs.Receipts.{usable}
 use Rattle.receiver.specs.Judging.{Judgeable, Addressed, Counting, Decides}
-use Rattle.receiver.proofs.Receipts.{usable, payload-few}
+use Rattle.receiver.proofs.Receipts.{payload-few}
 
 -- The steps before the slot's, from what the code tested.
-pub addressed : (s : Saved) (receive packet : List ℕ) (p : Packet) → Judgeable s receive packet → p ≡ packetOf packet
+pub addressed : (s : Saved) (receive packet : List ℕ) (p : Packet) → Judgeable s receive packet p
     → headerChecks packet ≡ true → fieldsOk p ≡ true → dstNode (p .header .address0) ≡ ownNode (s .pcsr0)
     → dstSlot (p .header .address1) < s .slots → Addressed s receive packet p
-addressed s receive packet p j fields header zeros node slot =
+addressed s receive packet p j header zeros node slot =
     record {
       judgeable = j;
-      fields = fields;
-      payload = rw fields (payload-few packet (j .sized));
+      payload = payload-few packet p (j .fields) (j .sized);
       header = header;
       zeros = zeros;
       node = eq-eqb _ _ node;
@@ -63,18 +64,18 @@ decided s receive packet dataLength p v a words valid same plain d =
 
 -- Data's own steps decide, once all before them passed.
 pub data-steps : (i : SlotIndex) (v : Slot) (packet : List ℕ) (p : Packet) {r : Receipt}
-    → r ≡ need (leb (offset (p .header .control0)) (v .size)) (Receipt.Fails 0x1000)
-    (need (leb (offset (p .header .control0) + p .payloadlength) (v .size)) (Receipt.Fails 0x0800)
-    (need (within24 (newBytesToGo p v)) (Receipt.Fails 0x0800)
-    (need (bodyChecks packet) (Receipt.Fails 0x0200)
-    (Receipt.Lands i))))
+    → r ≡ need (leb (offset (p .header .control0)) (v .size)) (Receipt.Fails Fault.OffsetAbove)
+    (need (leb (offset (p .header .control0) + p .payloadlength) (v .size)) (Receipt.Fails Fault.Beyond)
+    (need (within24 (newBytesToGo p v)) (Receipt.Fails Fault.Beyond)
+    (need (bodyChecks packet) (Receipt.Fails Fault.BodyCheck)
+    (Receipt.Lands i v))))
     → Decides i v packet p r
 unfolding receiptOf
 data-steps i v packet p e =
     record {
       decides = λ s receive n past.
           let a = past .addressed in
-          rw (← a .fields, ← past .slot, ← past .words)
+          rw (← a .judgeable .fields, ← past .slot, ← past .words)
           (go-on _ (a .header)
           (go-on _ (a .zeros)
           (go-on _ (a .node)

@@ -2,13 +2,13 @@
 use mathlib.Core.Path.{_≡_, refl, sym, ap, _∙_}
 use mathlib.Core.Logic.{_⊎_, ⊎-elim}
 use mathlib.Core.Bool.{Bool, true, false, _&&_}
-use mathlib.Core.List.{List}
 use Prim.Native.Nat.{ℕ, _+_, _*_, _^_, _<_, _≤_}
 use native.Mathlib.Omega.{arith}
 use denote.Enum.Declared.{tagOf}
 use Rattle.ground.specs.Choice.{pick}
 use Rattle.ground.specs.Signed.{unsigned}
 use Rattle.ground.proofs.Choice.{arm-yes, arm-no, pick-holds}
+use Rattle.rules.specs.declared.Fault.{Fault}
 use Rattle.rules.specs.declared.Header.{Header}
 use Rattle.rules.specs.declared.Metadata.{Metadata}
 use Rattle.rules.specs.declared.Notice.{Notice}
@@ -20,51 +20,59 @@ use Rattle.rules.specs.declared.SlotIndex.{SlotIndex}
 use Rattle.rules.proofs.Receipt.{the-type}
 use Rattle.rules.specs.Words.{most24, srcNode, incarnation, slotAndSource, metaFlag, metaPart, usesMsgSize, usesMsgOffset, msgSize, offset}
 use Rattle.rules.specs.Memory.{list, slotsMost, noMetadata}
-use Rattle.rules.specs.Slots.{slotAt, withMessage, slotNoteIndex, slotNotifies, doesAcks, ackNoteIndex}
-use Rattle.rules.specs.Receipt.{newBytesToGo, landed, completes, finished, slotAfter, messageNotice, ackNotice, faultNotice, receiptPosting, needsAqr}
+use Rattle.rules.specs.Slots.{withMessage, slotNoteIndex, slotNotifies, doesAcks, ackNoteIndex}
+use Rattle.rules.specs.Receipt.{faultStatus, newBytesToGo, landed, completes, finished, slotAfter, messageNotice, ackNotice, faultNotice, receiptPosting, needsAqr}
 use Rattle.receiver.specs.ToGo.{Countable}
-use Rattle.receiver.specs.Acting.{Known, Meeting, Notable, Tells}
+use Rattle.receiver.specs.Acting.{Known, Meeting, Notable}
 
 -- ---- a receipt by its tag
 
 -- One that is no landing.
-pub unless-lands : (P : Receipt → Type 0) → ((status : ℕ) → P (Receipt.Fails status)) → ((i : SlotIndex) → P (Receipt.Acks i)) → (r : Receipt)
+pub unless-lands : (P : Receipt → Type 0) → ((f : Fault) → P (Receipt.Fails f)) → ((i : SlotIndex) (v : Slot) → P (Receipt.Acks i v)) → (r : Receipt)
     → (tagOf the-type r ≡ 0) ⊎ (tagOf the-type r ≡ 1) → P r
-unless-lands P fault ack (Receipt.Fails status) t = fault status
-unless-lands P fault ack (Receipt.Acks i) t = ack i
-unless-lands P fault ack (Receipt.Lands i) t =
+unless-lands P fault ack (Receipt.Fails f) t = fault f
+unless-lands P fault ack (Receipt.Acks i v) t = ack i v
+unless-lands P fault ack (Receipt.Lands i v) t =
     absurd (⊎-elim (λ e. let z : _≡_ {A = ℕ} 2 0 = e in omega arith) (λ e. let z : _≡_ {A = ℕ} 2 1 = e in omega arith) t)
 
 -- One that is no fault.
-pub unless-fails : (P : Receipt → Type 0) → ((i : SlotIndex) → P (Receipt.Acks i)) → ((i : SlotIndex) → P (Receipt.Lands i)) → (r : Receipt)
-    → (tagOf the-type r ≡ 1) ⊎ (tagOf the-type r ≡ 2) → P r
-unless-fails P ack land (Receipt.Fails status) t =
+pub unless-fails : (P : Receipt → Type 0) → ((i : SlotIndex) (v : Slot) → P (Receipt.Acks i v)) → ((i : SlotIndex) (v : Slot) → P (Receipt.Lands i v))
+    → (r : Receipt) → (tagOf the-type r ≡ 1) ⊎ (tagOf the-type r ≡ 2) → P r
+unless-fails P ack land (Receipt.Fails f) t =
     absurd (⊎-elim (λ e. let z : _≡_ {A = ℕ} 0 1 = e in omega arith) (λ e. let z : _≡_ {A = ℕ} 0 2 = e in omega arith) t)
-unless-fails P ack land (Receipt.Acks i) t = ack i
-unless-fails P ack land (Receipt.Lands i) t = land i
+unless-fails P ack land (Receipt.Acks i v) t = ack i v
+unless-fails P ack land (Receipt.Lands i v) t = land i v
 
 -- ---- what is known of a receipt
 
-module _ (receive : List ℕ) (p : Packet) (r : Receipt) (k : Known receive p r) where
-  -- A status is one of 16 bits.
-  pub status-low : (status : ℕ) → r ≡ Receipt.Fails status → status < 2 ^ 16
-  status-low status e = k .status status e
+-- A status is one of 16 bits.
+pub status-low : (f : Fault) → faultStatus f < 2 ^ 16
+status-low Fault.HeaderCheck = omega arith
+status-low Fault.Fields = omega arith
+status-low Fault.Node = omega arith
+status-low Fault.SlotAboveCount = omega arith
+status-low Fault.SlotNotValid = omega arith
+status-low Fault.Incarnation = omega arith
+status-low Fault.OffsetAbove = omega arith
+status-low Fault.Beyond = omega arith
+status-low Fault.BodyCheck = omega arith
 
+module _ (p : Packet) (r : Receipt) (k : Known p r) where
   -- An ack's slot is one of the table.
-  pub ack-slot : (i : SlotIndex) → r ≡ Receipt.Acks i → i .0 < slotsMost
-  ack-slot i e = k .acks i e
+  pub ack-slot : (i : SlotIndex) (v : Slot) → r ≡ Receipt.Acks i v → i .0 < slotsMost
+  ack-slot i v e = k .acks i v e
 
   -- So is the slot that data lands in.
-  pub data-slot : (i : SlotIndex) → r ≡ Receipt.Lands i → i .0 < slotsMost
-  data-slot i e = k .lands i e
+  pub data-slot : (i : SlotIndex) (v : Slot) → r ≡ Receipt.Lands i v → i .0 < slotsMost
+  data-slot i v e = k .lands i v e .low
 
   -- The slot that a packet lands in.
-  pub meeting : (i : SlotIndex) (v : Slot) → r ≡ Receipt.Lands i → v ≡ slotAt receive i → Meeting i p v
-  meeting i v e same = record { low = k .lands i e; payload = k .payload; usable = rw same (k .usable i e) }
+  pub meeting : (i : SlotIndex) (v : Slot) → r ≡ Receipt.Lands i v → Meeting i p v
+  meeting i v e = k .lands i v e
 
   -- Its bytes_to_go can be counted.
-  pub known-count : (i : SlotIndex) (v : Slot) → r ≡ Receipt.Lands i → v ≡ slotAt receive i → Countable p v
-  known-count i v e same = record { old = meeting i v e same .usable .bytestogo; payload = k .payload }
+  pub known-count : (i : SlotIndex) (v : Slot) → r ≡ Receipt.Lands i v → Countable p v
+  known-count i v e = let m = k .lands i v e in record { old = m .usable .bytestogo; payload = m .payload }
 
 -- ---- the slot
 
@@ -135,41 +143,41 @@ ack-words i h word0 e = rw e
 
 -- At a message's end, with notify.
 pub tells-end : (i : SlotIndex) (p : Packet) (v w : Slot) (t : Bool) (n : Notice) → t ≡ completes p v → (t && slotNotifies (v .noteandflags)) ≡ true
-    → w ≡ landed p v → n ≡ messageNotice i (p .header) w → Tells i p v (Posting.On (list (slotNoteIndex (v .noteandflags))) n)
+    → w ≡ landed p v → n ≡ messageNotice i (p .header) w
+    → Posting.On (list (slotNoteIndex (v .noteandflags))) n ≡ receiptPosting p (Receipt.Lands i v)
 unfolding receiptPosting
-tells-end i p v w t n told test left made = record { whole = λ receive same. rw (← same) (arm-yes _ (rw told at test) (rw (made, left))) }
+tells-end i p v w t n told test left made = arm-yes _ (rw told at test) (rw (made, left))
 
 -- Else.
 pub tells-none : (i : SlotIndex) (p : Packet) (v : Slot) (t : Bool) → t ≡ completes p v → (t && slotNotifies (v .noteandflags)) ≡ false
-    → Tells i p v Posting.Silent
+    → Posting.Silent ≡ receiptPosting p (Receipt.Lands i v)
 unfolding receiptPosting
-tells-none i p v t told test = record { whole = λ receive same. rw (← same) (arm-no _ (rw told at test) refl) }
+tells-none i p v t told test = arm-no _ (rw told at test) refl
 
-module _ (receive : List ℕ) (p : Packet) (r : Receipt) where
+module _ (p : Packet) (r : Receipt) where
   -- A fault's notice.
-  pub posts-fault : (status : ℕ) (n : Notice) → r ≡ Receipt.Fails status → n ≡ faultNotice (p .header) status
-      → Posting.On (list 0) n ≡ receiptPosting receive p r
+  pub posts-fault : (f : Fault) (n : Notice) → r ≡ Receipt.Fails f → n ≡ faultNotice (p .header) f → Posting.On (list 0) n ≡ receiptPosting p r
   unfolding receiptPosting
-  posts-fault status n e made = rw (e, made)
+  posts-fault f n e made = rw (e, made)
 
   -- An ack's.
-  pub posts-ack : (i : SlotIndex) (v : Slot) (n : Notice) → r ≡ Receipt.Acks i → v ≡ slotAt receive i → n ≡ ackNotice i (p .header)
-      → Posting.On (list (ackNoteIndex (v .acknote))) n ≡ receiptPosting receive p r
+  pub posts-ack : (i : SlotIndex) (v : Slot) (n : Notice) → r ≡ Receipt.Acks i v → n ≡ ackNotice i (p .header)
+      → Posting.On (list (ackNoteIndex (v .acknote))) n ≡ receiptPosting p r
   unfolding receiptPosting
-  posts-ack i v n e same made = rw (e, same, made)
+  posts-ack i v n e made = rw (e, made)
 
   -- A message's.
-  pub posts-message : (i : SlotIndex) (v : Slot) (out : Posting) → r ≡ Receipt.Lands i → v ≡ slotAt receive i → Tells i p v out
-      → out ≡ receiptPosting receive p r
-  posts-message i v out e same told = rw e (told .whole receive same)
+  pub posts-message : (i : SlotIndex) (v : Slot) (out : Posting) → r ≡ Receipt.Lands i v → out ≡ receiptPosting p (Receipt.Lands i v)
+      → out ≡ receiptPosting p r
+  posts-message i v out e told = rw e told
 
   -- No entry on AQR but for data.
-  pub no-entry : (tagOf the-type r ≡ 0) ⊎ (tagOf the-type r ≡ 1) → false ≡ needsAqr receive p r
+  pub no-entry : (tagOf the-type r ≡ 0) ⊎ (tagOf the-type r ≡ 1) → false ≡ needsAqr p r
   unfolding needsAqr
-  no-entry = unless-lands (λ r. false ≡ needsAqr receive p r) (λ status. refl) (λ i. refl) r
+  no-entry = unless-lands (λ r. false ≡ needsAqr p r) (λ f. refl) (λ i v. refl) r
 
   -- An entry for data.
-  pub some-entry : (i : SlotIndex) (v : Slot) (t : Bool) → r ≡ Receipt.Lands i → v ≡ slotAt receive i → t ≡ completes p v
-      → (t && doesAcks (v .noteandflags)) ≡ needsAqr receive p r
+  pub some-entry : (i : SlotIndex) (v : Slot) (t : Bool) → r ≡ Receipt.Lands i v → t ≡ completes p v
+      → (t && doesAcks (v .noteandflags)) ≡ needsAqr p r
   unfolding needsAqr
-  some-entry i v t e same told = rw (e, ← same, told)
+  some-entry i v t e told = rw (e, told)

@@ -1,37 +1,30 @@
--- What a receipt says, from the table of steps; and what finding room and acting ask. Assumes nothing.
-use mathlib.Core.Path.{_≡_, refl, sym}
-use mathlib.Core.Bool.{true, not, _&&_, _||_}
+-- What finding room and acting ask, from what the table of steps says. Assumes nothing.
+use mathlib.Core.Path.{_≡_, refl, subst}
+use mathlib.Core.Bool.{not}
 use mathlib.Core.List.{List}
-use Prim.Native.Nat.{ℕ, _+_, _^_, _<_, _≤_}
+use Prim.Native.Nat.{ℕ, _≤_}
 use native.Mathlib.Omega.{arith}
-use borrow.Author.Tests.{ltb-true, leb-true, eqb-true}
-use lib.Dec.{ltb}
 use lib.ListN.{length}
-use Rattle.ground.proofs.Choice.{pick-by, need-holds, went}
 use Rattle.ground.proofs.Tests.{and-left, and-right, or-second, not-no}
 use Rattle.rules.specs.declared.Packet.{Packet}
 use Rattle.rules.specs.declared.Receipt.{Receipt}
 use Rattle.rules.specs.declared.Receiving.{Receiving}
-use Rattle.rules.specs.declared.Refusal.{Refusal}
 use Rattle.rules.specs.declared.Saved.{Saved}
-use Rattle.rules.specs.declared.Slot.{Slot}
-use Rattle.rules.specs.declared.SlotIndex.{SlotIndex}
-use Rattle.rules.specs.Words.{dstSlot, offset}
-use Rattle.rules.specs.Memory.{Machine, receiveSize, slotsMost, slot, lists}
+use Rattle.rules.specs.Memory.{Machine, slotsMost}
 use Rattle.rules.specs.Queues.{hasRoom}
-use Rattle.rules.specs.Packet.{packetMost, payloadLength, packetOf, isPacket}
-use Rattle.rules.specs.Slots.{slotAt, slotOk, slotNoteIndex, slotNotifies, ackNoteIndex}
+use Rattle.rules.specs.Packet.{packetMost, payloadLength, packetOf}
 use Rattle.rules.specs.Notices.{canPostAll}
-use Rattle.rules.specs.Receipt.{completes, receiptOf, receiptPosting, needsAqr, hasRoomFor}
+use Rattle.rules.specs.Receipt.{receiptOf, receiptPosting, needsAqr, hasRoomFor}
 use Rattle.rules.specs.Calls.{judgeReceive}
+use Rattle.laws.specs.Receipts.{OfReceipt}
+use Rattle.laws.specs.Verdicts.{Comes, OfReceive}
+use Rattle.laws.proofs.Receipts.{of-receipt, usable, buffer-inside, receipt-listed}
+use Rattle.laws.proofs.Verdicts.{of-receive}
 use Rattle.packet.specs.Packet.{Sized}
 use Rattle.packet.proofs.Reading.{sized}
-use Rattle.laws.proofs.Gate.{past-gate}
-use Rattle.laws.specs.Postings.{Listed}
-use Rattle.laws.proofs.Postings.{on-list, on-none}
 use Rattle.notices.proofs.Facts.{pushable, postable-all}
-use Rattle.receiver.specs.Acting.{Usable, Known, Receivable}
-use Rattle.receiver.specs.Judging.{Judgeable, Valid, Told, Answerable}
+use Rattle.receiver.specs.Acting.{Known, Landable, Receivable}
+use Rattle.receiver.specs.Judging.{Judgeable, Answerable}
 
 -- ---- a payload is a part of its packet
 
@@ -39,175 +32,71 @@ payload-same : (packet : List ℕ) → packetOf packet .payloadlength ≡ payloa
 unfolding packetOf
 payload-same packet = refl
 
-pub payload-few : (packet : List ℕ) → Sized packet → packetOf packet .payloadlength ≤ packetMost
+pub payload-few : (packet : List ℕ) (p : Packet) → p ≡ packetOf packet → Sized packet → p .payloadlength ≤ packetMost
 unfolding packetOf
-payload-few packet s = omega (arith, s .short)
-
--- ---- what each outcome says
-
--- A fault is no ack.
-fault-no-ack : {k : ℕ} {i : SlotIndex} → Receipt.Fails k ≡ Receipt.Acks i → ⊥
-fault-no-ack e = let z : _≡_ {A = ℕ} 0 1 = cc in omega arith
-
--- A fault is no data that lands.
-fault-no-data : {k : ℕ} {i : SlotIndex} → Receipt.Fails k ≡ Receipt.Lands i → ⊥
-fault-no-data e = let z : _≡_ {A = ℕ} 0 1 = cc in omega arith
-
--- An ack is none either.
-ack-no-data : {i j : SlotIndex} → Receipt.Acks i ≡ Receipt.Lands j → ⊥
-ack-no-data e = let z : _≡_ {A = ℕ} 0 1 = cc in omega arith
-
-module _ (s : Saved) (receive : List ℕ) (dataLength : ℕ) (p : Packet) where
-  -- A fault has a status of 16 bits.
-  told-fault : (k : ℕ) → k < 2 ^ 16 → Told s receive dataLength p (Receipt.Fails k)
-  told-fault k h =
-      record {
-        status = λ k₂ e. let same : k ≡ k₂ = cc in omega arith;
-        acks = λ i e. absurd (fault-no-ack e);
-        lands = λ i e. absurd (fault-no-data e);
-        fits = λ i e. absurd (fault-no-data e);
-      }
-
-  -- An ack's slot is valid.
-  told-ack : (i : SlotIndex) → Valid s receive dataLength i → Told s receive dataLength p (Receipt.Acks i)
-  told-ack i v =
-      record {
-        status = λ k e. absurd (fault-no-ack (sym e));
-        acks = λ j e. let same : i ≡ j = cc in rw (← same) v;
-        lands = λ j e. absurd (ack-no-data e);
-        fits = λ j e. absurd (ack-no-data e);
-      }
-
-  -- The slot that data lands in is valid, and the data fits.
-  told-data : (i : SlotIndex) → Valid s receive dataLength i → offset (p .header .control0) + p .payloadlength ≤ slotAt receive i .size
-      → Told s receive dataLength p (Receipt.Lands i)
-  told-data i v f =
-      record {
-        status = λ k e. absurd (fault-no-data (sym e));
-        acks = λ j e. absurd (ack-no-data (sym e));
-        lands = λ j e. let same : i ≡ j = cc in rw (← same) v;
-        fits = λ j e. let same : i ≡ j = cc in rw (← same) f;
-      }
-
--- What the table of steps says.
-module _ (s : Saved) (receive : List ℕ) (dataLength : ℕ) (packet : List ℕ) where
-  pub told : Told s receive dataLength (packetOf packet) (receiptOf s receive dataLength packet)
-  unfolding receiptOf
-  told =
-      let p : Packet = packetOf packet in
-      let i : SlotIndex = slot (dstSlot (p .header .address1)) in
-      let P : Receipt → Type 0 = Told s receive dataLength p in
-      let fault : (k : ℕ) → k < 2 ^ 16 → P (Receipt.Fails k) = told-fault s receive dataLength p in
-      need-holds P _ (λ e. fault _ (omega arith)) (λ header.
-      need-holds P _ (λ e. fault _ (omega arith)) (λ zeros.
-      need-holds P _ (λ e. fault _ (omega arith)) (λ node.
-      need-holds P _ (λ e. fault _ (omega arith)) (λ low.
-      need-holds P _ (λ e. fault _ (omega arith)) (λ ok.
-      let v : Valid s receive dataLength i = record { low = ltb-true _ _ low; ok = ok } in
-      need-holds P _ (λ e. fault _ (omega arith)) (λ incarnation.
-      need-holds P _ (λ e. told-ack s receive dataLength p i v) (λ plain.
-      need-holds P _ (λ e. fault _ (omega arith)) (λ inside.
-      need-holds P _ (λ e. fault _ (omega arith)) (λ buffer.
-      need-holds P _ (λ e. fault _ (omega arith)) (λ bytestogo.
-      need-holds P _ (λ e. fault _ (omega arith)) (λ body.
-      told-data s receive dataLength p i v (leb-true _ _ buffer))))))))))))
-
--- ---- what a valid slot says
-
--- A test of a chain, and what it says of numbers.
-ruleset tests = (and-left, and-right, ltb-true, leb-true, eqb-true)
-
-module _ (v : Slot) (dataLength : ℕ) (ok : slotOk v dataLength ≡ true) where
-  -- Its counts and its meta word.
-  pub usable : Usable v
-  unfolding slotOk
-  usable = search tests depth 20
-
-  -- Its buffer lies in data memory.
-  pub buffer-inside : v .base + v .size ≤ dataLength
-  unfolding slotOk
-  buffer-inside = search tests depth 20
-
-  -- The list of its acks.
-  pub ack-list : ackNoteIndex (v .acknote) < lists
-  unfolding slotOk
-  ack-list = search tests depth 20
-
-  -- The list of its messages.
-  pub message-list : slotNotifies (v .noteandflags) ≡ true → slotNoteIndex (v .noteandflags) < lists
-  unfolding slotOk
-  message-list e =
-      let either : (not (slotNotifies (v .noteandflags)) || ltb (slotNoteIndex (v .noteandflags)) lists) ≡ true = search tests depth 20 in
-      ltb-true _ _ (or-second (not (slotNotifies (v .noteandflags))) _ either (not-no e))
+payload-few packet p fields s = rw fields (omega (arith, s .short))
 
 -- ---- what is asked of a receipt
 
--- A slot below the count is a slot of the table.
-slot-low : {s : Saved} {receive : List ℕ} {dataLength : ℕ} {i : SlotIndex} → s .slots ≤ slotsMost → Valid s receive dataLength i → i .0 < slotsMost
-slot-low h v = omega (arith, v .low)
-
-module _ (s : Saved) (receive : List ℕ) (dataLength : ℕ) (p : Packet) where
-  -- What a receipt posts is on one of the 64 lists.
-  listed : (r : Receipt) → Told s receive dataLength p r → Listed (receiptPosting receive p r)
-  unfolding receiptPosting
-  listed (Receipt.Fails status) t = on-list (omega arith)
-  listed (Receipt.Acks i) t = on-list (ack-list (slotAt receive i) dataLength (t .acks i refl .ok))
-  listed (Receipt.Lands i) t =
-      pick-by Listed _
-      (λ e. on-list (message-list (slotAt receive i) dataLength (t .lands i refl .ok) (and-right (completes p (slotAt receive i)) _ e)))
-      (λ e. on-none)
+module _ (s : Saved) (receive : List ℕ) (n : ℕ) (p : Packet) (r : Receipt) (t : OfReceipt s receive n p r) where
+  -- What it says, once it is known what it is.
+  told : (x : Receipt) → r ≡ x → OfReceipt s receive n p x
+  told x e = subst (OfReceipt s receive n p) e t
 
   -- What acting knows of it.
-  known : (r : Receipt) → length receive ≡ receiveSize → s .slots ≤ slotsMost → p .payloadlength ≤ packetMost
-      → Told s receive dataLength p r → Known receive p r
-  known r size slots payload t =
+  known : s .slots ≤ slotsMost → p .payloadlength ≤ packetMost → Known p r
+  known slots payload =
       record {
-        size = size;
-        payload = payload;
-        status = t .status;
-        acks = λ i e. slot-low slots (t .acks i e);
-        lands = λ i e. slot-low slots (t .lands i e);
-        usable = λ i e. usable (slotAt receive i) dataLength (t .lands i e .ok);
+        acks = λ i v e. omega (arith, slots, told _ e .low);
+        lands = λ i v e.
+            let h = told _ e .0 in
+            record { low = omega (arith, slots, h .low); payload = payload; usable = usable v n (h .ok) };
+      }
+
+  -- Its payload fits where it lands.
+  landable : (bytes packet : List ℕ) → n ≡ length bytes → Sized packet → p ≡ packetOf packet → Landable bytes packet p r
+  landable bytes packet size whole read =
+      let payload : p .payloadlength ≡ payloadLength packet = rw read (payload-same packet) in
+      record {
+        landing = λ i v e.
+            let h = told _ e in
+            record { sized = whole; fits = omega (arith, size, payload, buffer-inside v n (h .0 .ok), h .1) };
       }
 
 -- A receipt by the table of steps.
-pub answerable : (s : Saved) (receive : List ℕ) (dataLength : ℕ) (packet : List ℕ) (r : Receipt) → Judgeable s receive packet
-    → r ≡ receiptOf s receive dataLength packet → Answerable receive (packetOf packet) r
-answerable s receive dataLength packet r j e =
-    let t : Told s receive dataLength (packetOf packet) r = rw e (told s receive dataLength packet) in
+pub answerable : (s : Saved) (receive : List ℕ) (n : ℕ) (packet : List ℕ) (p : Packet) (r : Receipt) → Judgeable s receive packet p
+    → r ≡ receiptOf s receive n packet → Answerable receive p r
+answerable s receive n packet p r j e =
+    let t : OfReceipt s receive n p r = rw (e, j .fields) (of-receipt s receive n packet) in
     record {
-      known = known s receive dataLength (packetOf packet) r (j .size) (j .slots) (payload-few packet (j .sized)) t;
-      listed = listed s receive dataLength (packetOf packet) r t;
+      known = known s receive n p r t (j .slots) (payload-few packet p (j .fields) (j .sized));
+      listed = receipt-listed s receive n p r t;
+      size = j .size;
     }
 
 -- ---- what acting asks
 
--- A refusal is no receipt.
-comes-not : {why : Refusal} {r : Receipt} → Receiving.No why ≡ Receiving.ComesTo r → ⊥
-comes-not e = let z : _≡_ {A = ℕ} 0 1 = cc in omega arith
-
 -- A receive that was judged to come to a receipt.
-pub receivable : (m : Machine) (packet : List ℕ) {r : Receipt} → judgeReceive m packet ≡ Receiving.ComesTo r
-    → Receivable (m .saved) (m .receive) (m .bytes) (length (m .notices)) packet r
-unfolding judgeReceive hasRoomFor
-receivable m packet {r} h =
+pub receivable : (m : Machine) (packet : List ℕ) {p : Packet} {r : Receipt} → judgeReceive m packet ≡ Receiving.ComesTo p r
+    → Receivable (m .saved) (m .receive) (m .bytes) (length (m .notices)) packet p r
+unfolding hasRoomFor
+receivable m packet {p} {r} h =
     let s : Saved = m .saved in
     let receive : List ℕ = m .receive in
-    let p : Packet = packetOf packet in
-    let past = past-gate Receiving.No m _ (λ why. comes-not) h in
-    let sound = past .0 in
-    let on = went _ comes-not (past .1) in
-    let whole = went (isPacket packet) comes-not (on .1) in
-    let room = went _ comes-not (whole .1) in
-    let same : r ≡ receiptOf s receive (length (m .bytes)) packet = cc in
-    let j : Judgeable s receive packet = record { sized = sized packet (whole .0); size = sound .sized .receive; slots = sound .ranges .slots } in
-    let a = answerable s receive (length (m .bytes)) packet r j same in
-    let t : Told s receive (length (m .bytes)) p r = rw same (told s receive (length (m .bytes)) packet) in
-    let free : (canPostAll s receive (receiptPosting receive p r) && (not (needsAqr receive p r) || hasRoom (s .aqr))) ≡ true = rw same (room .0) in
+    let n : ℕ = length (m .bytes) in
+    let c : Comes m packet p r = subst (OfReceive m packet) h (of-receive m packet) in
+    let sound = c .sound in
+    let size = sound .sized .receive in
+    let whole : Sized packet = sized packet (c .whole) in
+    let posts = canPostAll s receive (receiptPosting p r) in
     record {
-      sized = j .sized;
-      known = a .known;
-      fits = λ i e. omega (arith, payload-same packet, buffer-inside (slotAt receive i) (length (m .bytes)) (t .lands i e .ok), t .fits i e);
-      posting = postable-all s receive _ (j .size) (sound .nqr) (sound .nbqr) (receiptPosting receive p r) (sound .heads) (a .listed) (and-left (canPostAll s receive (receiptPosting receive p r)) _ free);
-      aqr = λ e. pushable (s .aqr) receive (sound .aqr) (j .size) (or-second (not (needsAqr receive p r)) _ (and-right (canPostAll s receive (receiptPosting receive p r)) _ free) (not-no e));
+      landable = landable s receive n p r (c .says) (m .bytes) packet refl whole (c .read);
+      boardable = record {
+        enterable = record {
+          storable = record { known = known s receive n p r (c .says) (sound .ranges .slots) (payload-few packet p (c .read) whole); size = size };
+          aqr = λ e. pushable (s .aqr) receive (sound .aqr) size (or-second (not (needsAqr p r)) (hasRoom (s .aqr)) (and-right posts _ (c .room)) (not-no e));
+        };
+        posting =
+            postable-all s receive _ size (sound .nqr) (sound .nbqr) (receiptPosting p r) (sound .heads) (c .listed) (and-left posts _ (c .room));
+      };
     }

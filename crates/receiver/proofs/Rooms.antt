@@ -14,35 +14,29 @@ use Rattle.rules.specs.declared.Verdict.{Verdict}
 use Rattle.rules.specs.Memory.{receiveSize, queueSize}
 use Rattle.rules.specs.Packet.{packetOf, isPacket}
 use Rattle.rules.specs.Notices.{canPostAll}
-use Rattle.rules.specs.Receipt.{receiptOf, receiptPosting, needsAqr, hasRoomFor}
+use Rattle.rules.specs.Receipt.{receiptPosting, needsAqr, hasRoomFor}
 use Rattle.packet.proofs.Reading.{sized}
 use Rattle.sound.specs.Gated.{Gated}
 use Rattle.sound.proofs.Passing.{gated-sound}
 use Rattle.laws.specs.Postings.{Listed}
 use Rattle.receiver.specs.Judging.{Judgeable, Answerable}
-use Rattle.receiver.proofs.Receipts.{answerable}
 
 -- A posting asks what its receipt gives.
-pub post-asks : {receive : List ℕ} {p : Packet} {r : Receipt} {q : Posting} → Answerable receive p r → q ≡ receiptPosting receive p r
+pub post-asks : {receive : List ℕ} {p : Packet} {r : Receipt} {q : Posting} → Answerable receive p r → q ≡ receiptPosting p r
     → Listed q × (length receive ≡ receiveSize)
-post-asks a e = (rw e (a .listed), a .known .size)
+post-asks a e = (rw e (a .listed), a .size)
 
 -- There is room by the two parts.
-pub room : (s : Saved) (receive : List ℕ) (p : Packet) (r : Receipt) {q : Posting} {posts entry : Bool} → q ≡ receiptPosting receive p r
-    → entry ≡ needsAqr receive p r → posts ≡ canPostAll s receive q
+pub room : (s : Saved) (receive : List ℕ) (p : Packet) (r : Receipt) {q : Posting} {posts entry : Bool} → q ≡ receiptPosting p r
+    → entry ≡ needsAqr p r → posts ≡ canPostAll s receive q
     → (posts && (not entry || ltb (s .aqr .length) queueSize)) ≡ hasRoomFor s receive p r
 unfolding hasRoomFor
 room s receive p r notice entry posts = rw (posts, entry, notice)
 
 -- Past the gate and the length rule.
-pub judgeable : (s : Saved) (send receive bytes notices packet : List ℕ) {v : Verdict} {whole : Bool}
+pub judgeable : (s : Saved) (send receive bytes notices packet : List ℕ) {v : Verdict} {whole : Bool} {p : Packet}
     → Gated s send receive (length bytes) (length notices) v → v ≡ Verdict.Go → whole ≡ isPacket packet → not whole ≡ false
-    → Judgeable s receive packet
-judgeable s send receive bytes notices packet told go e h =
+    → p ≡ packetOf packet → Judgeable s receive packet p
+judgeable s send receive bytes notices packet told go e h fields =
     let sound = gated-sound s send receive bytes notices told go in
-    record { sized = sized packet (flag-yes e h); size = sound .sized .receive; slots = sound .ranges .slots }
-
--- A receipt of a packet that was read.
-pub room-asks : (s : Saved) (receive : List ℕ) (dataLength : ℕ) (packet : List ℕ) {p : Packet} {r : Receipt} → Judgeable s receive packet
-    → r ≡ receiptOf s receive dataLength packet → p ≡ packetOf packet → Answerable receive p r
-room-asks s receive dataLength packet {r = r} j e fields = rw fields (answerable s receive dataLength packet r j e)
+    record { sized = sized packet (flag-yes e h); fields = fields; size = sound .sized .receive; slots = sound .ranges .slots }

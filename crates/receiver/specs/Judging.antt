@@ -1,8 +1,8 @@
--- What judging a packet asks, and what a receipt says of its slot. Assumes nothing.
+-- What judging a packet asks. Assumes nothing.
 use mathlib.Core.Path.{_≡_}
 use mathlib.Core.Bool.{true, false}
 use mathlib.Core.List.{List}
-use Prim.Native.Nat.{ℕ, _+_, _^_, _<_, _≤_}
+use Prim.Native.Nat.{ℕ, _≤_}
 use lib.Dec.{eqb, ltb}
 use lib.ListN.{length}
 use Rattle.rules.specs.declared.Packet.{Packet}
@@ -10,7 +10,7 @@ use Rattle.rules.specs.declared.Receipt.{Receipt}
 use Rattle.rules.specs.declared.Saved.{Saved}
 use Rattle.rules.specs.declared.Slot.{Slot}
 use Rattle.rules.specs.declared.SlotIndex.{SlotIndex}
-use Rattle.rules.specs.Words.{dstNode, dstSlot, isAckPkt, incarnation, offset}
+use Rattle.rules.specs.Words.{dstNode, dstSlot, isAckPkt, incarnation}
 use Rattle.rules.specs.Memory.{receiveSize, slotsMost, slot}
 use Rattle.rules.specs.Saved.{ownIncarnation, ownNode}
 use Rattle.rules.specs.Packet.{packetMost, packetOf, headerChecks, fieldsOk}
@@ -23,16 +23,16 @@ use Rattle.receiver.specs.Acting.{Known}
 
 -- ---- what judging asks
 
--- A packet that has its length, at a machine that has its sizes and ranges.
-pub record Judgeable (s : Saved) (receive packet : List ℕ) : Type 0 where
+-- A packet that has its length, as it is read, at a machine that has its sizes and ranges.
+pub record Judgeable (s : Saved) (receive packet : List ℕ) (p : Packet) : Type 0 where
   pub sized : Sized packet
+  pub fields : p ≡ packetOf packet
   pub size : length receive ≡ receiveSize
   pub slots : s .slots ≤ slotsMost
 
 -- The steps before the slot's passed.
 pub record Addressed (s : Saved) (receive packet : List ℕ) (p : Packet) : Type 0 where
-  pub judgeable : Judgeable s receive packet
-  pub fields : p ≡ packetOf packet
+  pub judgeable : Judgeable s receive packet p
   pub payload : p .payloadlength ≤ packetMost
   pub header : headerChecks packet ≡ true
   pub zeros : fieldsOk p ≡ true
@@ -57,23 +57,10 @@ pub record Counting (v : Slot) (packet : List ℕ) (p : Packet) : Type 0 where
 pub record Decides (i : SlotIndex) (v : Slot) (packet : List ℕ) (p : Packet) (r : Receipt) : Type 0 where
   pub decides : (s : Saved) (receive : List ℕ) (dataLength : ℕ) → Open s receive dataLength i v packet p → r ≡ receiptOf s receive dataLength packet
 
--- ---- what a receipt says
-
--- A slot below the count, and valid.
-pub record Valid (s : Saved) (receive : List ℕ) (dataLength : ℕ) (i : SlotIndex) : Type 0 where
-  pub low : i .0 < s .slots
-  pub ok : slotOk (slotAt receive i) dataLength ≡ true
-
--- By what the packet comes to; data that lands fits in the slot's buffer.
-pub record Told (s : Saved) (receive : List ℕ) (dataLength : ℕ) (p : Packet) (r : Receipt) : Type 0 where
-  pub status : (status : ℕ) → r ≡ Receipt.Fails status → status < 2 ^ 16
-  pub acks : (i : SlotIndex) → r ≡ Receipt.Acks i → Valid s receive dataLength i
-  pub lands : (i : SlotIndex) → r ≡ Receipt.Lands i → Valid s receive dataLength i
-  pub fits : (i : SlotIndex) → r ≡ Receipt.Lands i → offset (p .header .control0) + p .payloadlength ≤ slotAt receive i .size
-
 -- ---- what finding room asks
 
 -- A receipt by the table of steps, and what it posts, if anything, is on one of the 64 lists.
 pub record Answerable (receive : List ℕ) (p : Packet) (r : Receipt) : Type 0 where
-  pub known : Known receive p r
-  pub listed : Listed (receiptPosting receive p r)
+  pub known : Known p r
+  pub listed : Listed (receiptPosting p r)
+  pub size : length receive ≡ receiveSize

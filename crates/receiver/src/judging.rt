@@ -20,8 +20,8 @@ fn has_room_for(s: Saved, receive: &[u32], p: Packet, r: Receipt) -> bool
     ensures { λ o. ⌜ o ≡ hasRoomFor s (now (receive .entry)) p r ⌝ }
 {
     let aqr = s.aqr;
-    let notice = posting::receipt_posting(receive, p, r);
-    let entry = posting::needs_aqr(receive, p, r);
+    let notice = posting::receipt_posting(p, r);
+    let entry = posting::needs_aqr(p, r);
     notices::can_post_all(s, receive, notice) & (!entry | (aqr.length < 256))
 }
 
@@ -46,9 +46,10 @@ pub fn judge_receive(
     if !read::is_packet(packet) {
         return Receiving::No(Refusal::NoPacket);
     }
-    let receipt = first_failure::receipt_of(s, receive, bytes.len(), packet);
-    if !has_room_for(s, receive, read::fields(packet), receipt) {
+    let p = read::fields(packet);
+    let receipt = first_failure::receipt_of(s, receive, bytes.len(), packet, p);
+    if !has_room_for(s, receive, p, receipt) {
         return Receiving::No(Refusal::Stalled);
     }
-    Receiving::ComesTo(receipt)
+    Receiving::ComesTo(p, receipt)
 }

@@ -1,6 +1,8 @@
 // What a receipt posts, and whether it puts an entry on AQR.
+use crate::first_failure;
 use crate::landing;
 use crate::togo;
+use rules::Fault;
 use rules::Header;
 use rules::ListIndex;
 use rules::Notice;
@@ -10,10 +12,11 @@ use rules::Receipt;
 use rules::Slot;
 use rules::SlotIndex;
 ghost use mathlib.Core.Path.{_≡_};
-ghost use Prim.Native.Nat.{_^_, _<_};
+ghost use Prim.Native.Nat.{_<_};
+ghost use Rattle.rules.specs.declared.Receipt.{Receipt};
 ghost use Rattle.rules.specs.Words.{srcNode, slotAndSource};
 ghost use Rattle.rules.specs.Receipt.{messageNotice, ackNotice, faultNotice, receiptPosting, needsAqr};
-ghost use Rattle.receiver.specs.Acting.{Known, Meeting, Notable, Tells};
+ghost use Rattle.receiver.specs.Acting.{Known, Meeting, Notable};
 
 // Word 0 of a message's and of an ack's notice: slot and src_node.
 fn slot_and_source(i: SlotIndex, h: Header) -> u32
@@ -57,15 +60,14 @@ fn ack_notice(i: SlotIndex, h: Header) -> Notice
 }
 
 // A fault's notice: the fields as they stand in the packet.
-fn fault_notice(h: Header, status: u32) -> Notice
-    requires { ⌜ status < 2 ^ 16 ⌝ }
-    ensures { λ r. ⌜ r ≡ faultNotice h status ⌝ }
+fn fault_notice(h: Header, f: Fault) -> Notice
+    ensures { λ r. ⌜ r ≡ faultNotice h f ⌝ }
 {
     let dst_node = h.address0 / 0x1_0000 % 0x1000;
     let dst_slot = h.address1 / 0x1_0000 % 0x1_0000;
     let src_node = h.address1 / 16 % 0x1000;
     Notice {
-        word0: dst_slot * 0x1_0000 + status,
+        word0: dst_slot * 0x1_0000 + first_failure::fault_status(f),
         word1: 0,
         word2: dst_node * 0x1_0000 + src_node,
         metadata: landing::NO_METADATA,
@@ -75,7 +77,7 @@ fn fault_notice(h: Header, status: u32) -> Notice
 // At a message's end, with notify: its notice, on the slot's list.
 fn message_posting(i: SlotIndex, p: Packet, v: Slot) -> Posting
     requires { ⌜ Meeting i p v ⌝ }
-    ensures { λ r. ⌜ Tells i p v r ⌝ }
+    ensures { λ r. ⌜ r ≡ receiptPosting p (Receipt.Lands i v) ⌝ }
 {
     let note_index = v.noteandflags / 0x1_0000 % 0x1_0000;
     let notify = v.noteandflags / 0x1000 % 2 == 1;
@@ -88,31 +90,29 @@ fn message_posting(i: SlotIndex, p: Packet, v: Slot) -> Posting
 }
 
 // What a receipt posts: a fault's notice, an ack's, or at a message's end its own.
-pub(crate) fn receipt_posting(receive: &[u32], p: Packet, r: Receipt) -> Posting
-    requires { ⌜ Known (now receive) p r ⌝ }
-    ensures { λ out. ⌜ out ≡ receiptPosting (now (receive .entry)) p r ⌝ }
+pub(crate) fn receipt_posting(p: Packet, r: Receipt) -> Posting
+    requires { ⌜ Known p r ⌝ }
+    ensures { λ out. ⌜ out ≡ receiptPosting p r ⌝ }
 {
     let h = p.header;
     match r {
-        Receipt::Fails(status) => Posting::On(ListIndex(0), fault_notice(h, status)),
-        Receipt::Acks(i) => {
-            let v = tables::slot_at(receive, i);
+        Receipt::Fails(f) => Posting::On(ListIndex(0), fault_notice(h, f)),
+        Receipt::Acks(i, v) => {
             let ack_note_index = v.acknote / 0x1_0000 % 0x1_0000;
             Posting::On(ListIndex(ack_note_index), ack_notice(i, h))
         }
-        Receipt::Lands(i) => message_posting(i, p, tables::slot_at(receive, i)),
+        Receipt::Lands(i, v) => message_posting(i, p, v),
     }
 }
 
 // Whether a receipt puts its slot on AQR: at a message's end, with do_acks.
-pub(crate) fn needs_aqr(receive: &[u32], p: Packet, r: Receipt) -> bool
-    requires { ⌜ Known (now receive) p r ⌝ }
-    ensures { λ out. ⌜ out ≡ needsAqr (now (receive .entry)) p r ⌝ }
+pub(crate) fn needs_aqr(p: Packet, r: Receipt) -> bool
+    requires { ⌜ Known p r ⌝ }
+    ensures { λ out. ⌜ out ≡ needsAqr p r ⌝ }
 {
-    let Receipt::Lands(i) = r else {
+    let Receipt::Lands(_, v) = r else {
         return false;
     };
-    let v = tables::slot_at(receive, i);
     let do_acks = v.noteandflags / 0x2000 % 2 == 1;
     togo::completes(p, v) & do_acks
 }

@@ -11,7 +11,7 @@ use Rattle.rules.specs.Registers.{pcsr0Number, decode, reach, stepped, s
 use Rattle.rules.specs.Writes.{judgeReached, numberSet, sendStored, receiveStored, reset}
 use Rattle.rules.specs.Sending.{descriptorAt, storeDescriptor, sendPosting, nextSender, noneActive, nextPacket, afterPacket, markStalled}
 use Rattle.rules.specs.Packet.{packetMost, isPacket, packetOf}
-use Rattle.rules.specs.Receipt.{receiptOf, hasRoomFor, received}
+use Rattle.rules.specs.Receipt.{faultStatus, receiptOf, hasRoomFor, received}
 use Rattle.rules.specs.Board.{Effect, silently, onBoard}
 use Rattle.rules.specs.Notices.{placeOf, pushNbqr, postAll, takeBlock}
 use Rattle.rules.specs.Sound.{isSized, isSound}
@@ -85,25 +85,25 @@ writeCall m a v = actWrite m (decode a) v (judgeWrite m a v)
 abbrev pub receipt : Machine → List ℕ → Receipt
 receipt m packet = receiptOf (m .saved) (m .receive) (length (m .bytes)) packet
 
--- sizes, unsound, off, no-packet, stalled; then what the table says, a fault too.
+-- sizes, unsound, off, no-packet, stalled; then the packet as it is read, and what the table says, a fault too.
 unfoldable pub judgeReceive : Machine → List ℕ → Receiving
 judgeReceive m packet =
     gate Receiving.No m
     (need (enables (m .saved .pcsr0)) (Receiving.No Off)
     (need (isPacket packet) (Receiving.No NoPacket)
     (need (hasRoomFor (m .saved) (m .receive) (packetOf packet) (receipt m packet)) (Receiving.No Stalled)
-    (Receiving.ComesTo (receipt m packet)))))
+    (Receiving.ComesTo (packetOf packet) (receipt m packet)))))
 
 -- fault: "fault notice posted"; the value is "a fault's status".
 abbrev pub receiptReply : Receipt → Reply
-receiptReply (Receipt.Fails status) = Reply.Fault status
-receiptReply (Receipt.Acks i) = Reply.Done 0
-receiptReply (Receipt.Lands i) = Reply.Done 0
+receiptReply (Receipt.Fails f) = Reply.Fault (faultStatus f)
+receiptReply (Receipt.Acks i v) = Reply.Done 0
+receiptReply (Receipt.Lands i v) = Reply.Done 0
 
 -- By what it does.
 unfoldable pub actReceive : Machine → List ℕ → Receiving → Outcome
 actReceive m packet (Receiving.No why) = refused why m []
-actReceive m packet (Receiving.ComesTo r) = outcome (receiptReply r) (received packet r m) []
+actReceive m packet (Receiving.ComesTo p r) = outcome (receiptReply r) (received packet p r m) []
 
 -- A receipt of a packet.
 unfoldable pub receiveCall : Machine → List ℕ → Outcome

@@ -33,6 +33,8 @@ pub use Rattle.rules.specs.declared.Number.{Number}
 pub use Rattle.rules.specs.declared.SendStore.{SendStore}
 pub use Rattle.rules.specs.declared.ReceiveStore.{ReceiveStore}
 pub use Rattle.rules.specs.declared.Writing.{Writing}
+pub use Rattle.rules.specs.declared.Fault.{Fault}
+pub use Rattle.rules.specs.declared.Fault.the-variants.{HeaderCheck, Fields, Node, SlotAboveCount, SlotNotValid, Incarnation, OffsetAbove, Beyond, BodyCheck}
 pub use Rattle.rules.specs.declared.Receipt.{Receipt}
 pub use Rattle.rules.specs.declared.Receiving.{Receiving}
 pub use Rattle.rules.specs.declared.Found.{Found}

@@ -244,17 +244,30 @@ pub enum Writing {
     StoresReceive(ReceiveStore),
 }
 
-// What a packet comes to by the steps of receipt: a fault with its status, an ack for a slot, or data that lands in a slot.
-pub enum Receipt {
-    Fails(u32),
-    Acks(SlotIndex),
-    Lands(SlotIndex),
+// Why a packet fails: the steps of receipt by their status, in the table's order; bytes_to_go beyond its range has the payload's.
+pub enum Fault {
+    HeaderCheck,
+    Fields,
+    Node,
+    SlotAboveCount,
+    SlotNotValid,
+    Incarnation,
+    OffsetAbove,
+    Beyond,
+    BodyCheck,
 }
 
-// What a receive does: what the packet comes to, a fault too.
+// What a packet comes to by the steps of receipt: a fault; an ack for a slot, or data that lands in one, with the slot as it was judged.
+pub enum Receipt {
+    Fails(Fault),
+    Acks(SlotIndex, Slot),
+    Lands(SlotIndex, Slot),
+}
+
+// What a receive does: the packet as it was read, and what it comes to, a fault too.
 pub enum Receiving {
     No(Refusal),
-    ComesTo(Receipt),
+    ComesTo(Packet, Receipt),
 }
 
 // The first ready descriptor, or none.

@@ -70,9 +70,9 @@ returns c =
       ack-word0 = λ i h. omega arith;
       ack-word1 = λ i h. omega arith;
       ack-word2 = λ i h. rw (bit-flag 27 (h .control1));
-      fault-word0 = λ h status. omega arith;
-      fault-word1 = λ h status. refl;
-      fault-word2 = λ h status. omega arith;
+      fault-word0 = λ h f. omega arith;
+      fault-word1 = λ h f. refl;
+      fault-word2 = λ h f. omega arith;
     }
 
 pub layouts-spec : {M : Type 1} → statement M

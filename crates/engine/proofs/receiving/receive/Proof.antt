@@ -18,7 +18,7 @@ receive-spec =
     (λ c. search needs)
     (λ c κs.
     let told = c .before .before .before .before in
-    receivable _ _ (sym (told .before .before .judge-receive .ensures) ∙ told .r .given .1))
+    receivable _ _ (sym (told .before .before .judge-receive .ensures) ∙ told .p .given .1))
     (λ c. search needs)
     (λ c. search needs)
     (λ c. search needs)
@@ -31,4 +31,4 @@ receive-spec =
     (λ c.
     let done = c .before .before .before .before .before .before in
     let told = done .before .before .before .before .before in
-    receive-whole _ _ (told .before .before .judge-receive .ensures) (told .r .given .1) (done .act-receive .ensures .whole _)))
+    receive-whole _ _ (told .before .before .judge-receive .ensures) (told .p .given .1) (done .act-receive .ensures .whole _)))

@@ -1,6 +1,6 @@
 -- `receiver::acting::act_receive` meets its contract. Assumes nothing.
 use borrow.Author.Needs.{needs}
-use Rattle.receiver.proofs.Steps.{payload-asks, board-asks, receives}
+use Rattle.receiver.proofs.Steps.{receives}
 use Rattle.receiver.proofs.acting.act_receive.Statement.{statement}
 use Rattle.receiver.proofs.acting.act_receive.Tie as tie
 
@@ -9,8 +9,7 @@ act-receive-spec =
     tie.close
     (tie.spec
     (λ c κs. search needs)
-    (λ c κs. search payload-asks)
-    (λ c κs. search board-asks)
+    (λ c κs. search needs)
     (λ c κs. search needs)
     (λ c. search needs)
     (λ c. search needs)

@@ -9,7 +9,6 @@ land-spec =
     tie.close
     (tie.spec
     (λ c κs. search needs)
-    (λ c κs. search needs)
     (λ c κs. search land-asks)
     (λ c. search needs)
     (λ c. search lands))

@@ -1,7 +1,7 @@
 -- `receiver::acting::push_entry` meets its contract. Assumes nothing.
 use borrow.Author.Needs.{needs}
 use native.Mathlib.Omega.{arith}
-use Rattle.receiver.proofs.Steps.{entry-asks, entered, not-entered, never-entered}
+use Rattle.receiver.proofs.Steps.{entry-knows, entry-asks, entered, not-entered, never-entered}
 use Rattle.receiver.proofs.acting.push_entry.Statement.{statement}
 use Rattle.receiver.proofs.acting.push_entry.Tie as tie
 
@@ -11,7 +11,10 @@ push-entry-spec =
     (tie.spec
     (λ c. search needs)
     (λ c. never-entered _ _ _ _ (c .match .keys2))
-    (λ c. let k = c .before .before .before in omega (arith, k .before .before .before .pre .low _ (k .r .given .1)))
+    (λ c κs. search entry-knows)
+    (λ c.
+    let lands = c .before .before .before .before in
+    omega (arith, lands .before .before .before .pre .storable .known .lands _ _ (lands .r .given .1) .low))
     (λ c κs. search entry-asks)
     (λ c. search needs)
     (λ c. search entered)

@@ -11,7 +11,7 @@ abbrev posted : tie.After-struct-known2 → tie.After-post-all
 posted c = c .before .before .before .before .before .before .before .before
 
 abbrev landed : tie.After-struct-known2 → tie.After-land
-landed c = posted c .before .before .before .before .before .before
+landed c = posted c .before .before .before .before .before .before .before
 
 pub receive-on-board-spec : {M : Type 1} → statement M
 receive-on-board-spec =
@@ -25,6 +25,6 @@ receive-on-board-spec =
     (λ c. posted c .post-all .kept .1 .1 .0 ∙ landed c .land .kept .1 .1 .1 .0)
     (λ c. search needs)
     (λ c.
-    on-board _ _ _ _ _ _ _ (landed c .before .before .receipt-posting .ensures) (landed c .land .ensures) _ _ _ _ _
+    on-board _ _ _ _ _ _ _ (posted c .before .before .before .receipt-posting .ensures) (landed c .land .ensures) _ _ _ _ _
     (posted c .post-all .ensures)
     (c .before .before .count .ensures)))

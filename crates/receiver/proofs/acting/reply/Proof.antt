@@ -12,5 +12,6 @@ reply-spec =
     tie.close
     (tie.spec
     (λ c. search needs)
-    (λ c. rw (c .before .r .given .1))
-    (λ c. unless-fails (λ r. Reply.Done 0 ≡ receiptReply r) (λ i. refl) (λ i. refl) (c .before .args .r) (c .match .keys2)))
+    (λ c κs. search needs)
+    (λ c. rw (c .before .before .r .given .1, c .fault-status .ensures))
+    (λ c. unless-fails (λ r. Reply.Done 0 ≡ receiptReply r) (λ i v. refl) (λ i v. refl) (c .before .args .r) (c .match .keys2)))

@@ -1,6 +1,6 @@
 -- `receiver::acting::store_payload` meets its contract. Assumes nothing.
 use borrow.Author.Needs.{needs}
-use Rattle.receiver.proofs.Steps.{payload-stored, payload-fits, payload-slot, payload-none}
+use Rattle.receiver.proofs.Steps.{payload-stored, payload-fits, payload-none}
 use Rattle.receiver.proofs.acting.store_payload.Statement.{statement}
 use Rattle.receiver.proofs.acting.store_payload.Tie as tie
 
@@ -9,7 +9,6 @@ store-payload-spec =
     tie.close
     (tie.spec
     (λ c. search needs)
-    (λ c κs. search (payload-slot, needs))
     (λ c κs. search payload-fits)
     (λ c. search needs)
     (λ c. search payload-stored)

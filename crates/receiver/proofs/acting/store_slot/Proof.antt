@@ -10,7 +10,6 @@ store-slot-spec =
     tie.close
     (tie.spec
     (λ c. search needs)
-    (λ c κs. search (data-slot, needs))
     (λ c κs. search known-count)
     (λ c κs. search (data-slot, needs))
     (λ c. search needs)

@@ -17,15 +17,15 @@ receipt-in-spec =
     (λ c.
     let at = c .before .before in
     let asked = at .before .before .before .before .before .before .before .before .pre in
-    rw (← asked .fields, ← at .slot-at .ensures) (search (judging, asked) depth 24))
+    rw (← asked .judgeable .fields, ← at .slot-at .ensures) (search (judging, asked) depth 24))
     (λ c.
     let at = c .before .before .before in
     let asked = at .before .before .before .before .before .before .before .before .pre in
-    rw (← asked .fields, ← at .slot-at .ensures) (search (judging, asked) depth 24))
+    rw (← asked .judgeable .fields, ← at .slot-at .ensures) (search (judging, asked) depth 24))
     (λ c.
     let at = c .before .before .before .before in
     let asked = at .before .before .before .before .before .before .before .before .pre in
-    rw (← asked .fields, ← at .slot-at .ensures) (search (judging, asked) depth 24))
+    rw (← asked .judgeable .fields, ← at .slot-at .ensures) (search (judging, asked) depth 24))
     (λ c κs.
     let valid = c .before .before in
     data-asks _ _ (valid .before .before .before .before .before .before .before .before .before .before .pre) (flag-yes (valid .before .slot-ok .ensures) (valid .if1 .left)))

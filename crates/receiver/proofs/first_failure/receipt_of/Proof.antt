@@ -15,18 +15,15 @@ receipt-of-spec =
     (λ c κs. search needs)
     (λ c. search judging)
     (λ c κs. search needs)
-    (λ c κs. search needs)
-    (λ c. rw (← c .before .before .before .before .before .before .fields .ensures) (search judging depth 12))
-    (λ c. rw (← c .before .before .before .before .before .before .before .fields .ensures) (search judging depth 12))
-    (λ c. rw (← c .before .before .before .before .before .before .before .before .before .fields .ensures) (search judging depth 12))
+    (λ c. rw (← c .before .before .before .before .before .before .before .before .before .before .pre .fields) (search judging depth 12))
+    (λ c. rw (← c .before .before .before .before .before .before .before .before .before .before .before .pre .fields) (search judging depth 12))
+    (λ c. rw (← c .before .before .before .before .before .before .before .before .before .before .before .before .before .pre .fields) (search judging depth 12))
     (λ c κs.
     let ours = c .before .before in
     let zeros = ours .before in
-    let read = zeros .before .before .before .before .before .before in
-    let header = read .before in
+    let header = zeros .before .before .before .before .before .before in
     addressed _ _ _ _
     (header .before .before .before .before .pre)
-    (read .fields .ensures)
     (flag-yes (header .before .header-checks .ensures) (header .if1 .left))
     (flag-yes (zeros .before .fields-ok .ensures) (zeros .if2 .left))
     (ours .if3 .left)

@@ -1,7 +1,8 @@
 -- `receiver::posting::fault_notice` meets its contract. Assumes nothing.
 use borrow.Author.Needs.{needs}
-use mathlib.Core.Path.{refl}
+use native.Mathlib.Omega.{arith}
 use Rattle.rules.specs.Receipt.{faultNotice}
+use Rattle.receiver.proofs.Meetings.{status-low}
 use Rattle.receiver.proofs.posting.fault_notice.Statement.{statement}
 use Rattle.receiver.proofs.posting.fault_notice.Tie as tie
 
@@ -11,7 +12,8 @@ fault-notice-spec =
     tie.close
     (tie.spec
     (λ c. search needs)
+    (λ c κs. search needs)
+    (λ c. omega (arith, status-low (c .before .before .before .before .args .f), c .fault-status .ensures))
     (λ c. search needs)
     (λ c. search needs)
-    (λ c. search needs)
-    (λ c. refl))
+    (λ c. cc))

@@ -1,6 +1,6 @@
 -- `receiver::posting::receipt_posting` meets its contract. Assumes nothing.
 use borrow.Author.Needs.{needs}
-use Rattle.receiver.proofs.Meetings.{status-low, ack-slot, data-slot, meeting, posts-fault, posts-ack, posts-message}
+use Rattle.receiver.proofs.Meetings.{ack-slot, meeting, posts-fault, posts-ack, posts-message}
 use Rattle.receiver.proofs.posting.receipt_posting.Statement.{statement}
 use Rattle.receiver.proofs.posting.receipt_posting.Tie as tie
 
@@ -9,12 +9,10 @@ receipt-posting-spec =
     tie.close
     (tie.spec
     (λ c. search needs)
-    (λ c κs. search status-low)
+    (λ c κs. search needs)
     (λ c. search needs)
-    (λ c κs. search (ack-slot, needs))
-    (λ c κs. search (ack-slot, needs))
+    (λ c κs. search ack-slot)
     (λ c. search needs)
-    (λ c κs. search (data-slot, needs))
     (λ c κs. search meeting)
     (λ c. search posts-fault)
     (λ c. search posts-ack)
