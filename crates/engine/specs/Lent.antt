@@ -1,6 +1,6 @@
 -- A machine whose memories are lent to a call: as the call finds it, and as it leaves it. Assumes nothing.
 use Prim.Native.Nat.{ℕ}
-use mathlib.Core.List.{List, []}
+use mathlib.Core.List.{List}
 use denote.Ref.{RefT, now}
 use denote.Triple.Both.{Both}
 use Rattle.rules.specs.declared.Answer.{Answer}
@@ -20,11 +20,11 @@ before s send receive bytes notices = machine s (now (send .entry)) (now (receiv
 abbrev pub after : Saved → Slice → Slice → Slice → Slice → Machine
 after s send receive bytes notices = machine s (now (send .exit)) (now (receive .exit)) (now (bytes .exit)) (now (notices .exit))
 
--- What a call leaves that has no room.
-abbrev pub leaves : Answer → Slice → Slice → Slice → Slice → Outcome
-leaves r send receive bytes notices = answered r (now (send .exit)) (now (receive .exit)) (now (bytes .exit)) (now (notices .exit)) []
+-- What a call leaves, with what its room holds then.
+abbrev pub leaves : Answer → Slice → Slice → Slice → Slice → List ℕ → Outcome
+leaves r send receive bytes notices room =
+    answered r (now (send .exit)) (now (receive .exit)) (now (bytes .exit)) (now (notices .exit)) room
 
--- What one leaves that fills a room.
+-- Where it was lent one.
 abbrev pub fills : Answer → Slice → Slice → Slice → Slice → Slice → Outcome
-fills r send receive bytes notices room =
-    answered r (now (send .exit)) (now (receive .exit)) (now (bytes .exit)) (now (notices .exit)) (now (room .exit))
+fills r send receive bytes notices room = leaves r send receive bytes notices (now (room .exit))

@@ -3,6 +3,7 @@ use replies::refuse;
 use rules::Answer;
 use rules::Receiving;
 use rules::Saved;
+ghost use mathlib.Core.List.{[]};
 ghost use mathlib.Core.Path.{_≡_};
 ghost use Rattle.rules.specs.Calls.{receiveCall};
 ghost use Rattle.engine.specs.Lent.{before, leaves};
@@ -16,7 +17,7 @@ pub fn receive(
     notices: &mut [u32],
     packet: &[u8],
 ) -> Answer
-    ensures { λ r. ⌜ leaves r send receive bytes notices ≡ receiveCall (before s send receive bytes notices) (now (packet .entry)) ⌝ }
+    ensures { λ r. ⌜ leaves r send receive bytes notices [] ≡ receiveCall (before s send receive bytes notices) (now (packet .entry)) ⌝ }
 {
     match receiver::judge_receive(s, send, receive, bytes, notices, packet) {
         Receiving::No(why) => refuse(s, why),

@@ -1,6 +1,7 @@
 // The write.
 use rules::Answer;
 use rules::Saved;
+ghost use mathlib.Core.List.{[]};
 ghost use mathlib.Core.Path.{_≡_};
 ghost use Rattle.rules.specs.Calls.{writeCall};
 ghost use Rattle.engine.specs.Lent.{before, leaves};
@@ -15,7 +16,7 @@ pub fn write(
     register: u32,
     value: u32,
 ) -> Answer
-    ensures { λ r. ⌜ leaves r send receive bytes notices ≡ writeCall (before s send receive bytes notices) register value ⌝ }
+    ensures { λ r. ⌜ leaves r send receive bytes notices [] ≡ writeCall (before s send receive bytes notices) register value ⌝ }
 {
     let writing = registers::judge_write(s, send, receive, bytes, notices, register, value);
     registers::act_write(writing, s, send, receive, notices, register, value)
