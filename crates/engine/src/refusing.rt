@@ -13,8 +13,9 @@ ghost use Rattle.engine.specs.Lent.{before, leaves};
 pub fn unknown(s: Saved, send: &[u32], receive: &[u32], bytes: &[u8], notices: &[u32]) -> Answer
     ensures { λ r. ⌜ leaves r send receive bytes notices [] ≡ unknownCall (before s send receive bytes notices) ⌝ }
 {
-    match sound::gate(s, send, receive, bytes.len(), notices.len()) {
-        Verdict::No(why) => refuse(s, why),
-        Verdict::Go => refuse(s, Refusal::NoRegister),
-    }
+    let why = match sound::gate(s, send, receive, bytes.len(), notices.len()) {
+        Verdict::No(why) => why,
+        Verdict::Go => Refusal::NoRegister,
+    };
+    refuse(s, why)
 }

@@ -1,8 +1,6 @@
 // The take.
-use replies::refuse;
 use rules::Answer;
 use rules::Saved;
-use rules::Taking;
 ghost use mathlib.Core.Path.{_≡_};
 ghost use Rattle.rules.specs.Calls.{takeCall};
 ghost use Rattle.engine.specs.Lent.{before, fills};
@@ -19,8 +17,6 @@ pub fn take(
 ) -> Answer
     ensures { λ r. ⌜ fills r send receive bytes notices room ≡ takeCall (before s send receive bytes notices) list (now (room .entry)) ⌝ }
 {
-    match notices::judge_take(s, send, receive, bytes, notices, list, room.len()) {
-        Taking::No(why) => refuse(s, why),
-        Taking::Takes(l, b, next) => notices::act_take(l, b, next, s, receive, notices, room),
-    }
+    let taking = notices::judge_take(s, send, receive, bytes, notices, list, room.len());
+    notices::act_take(taking, s, receive, notices, room)
 }

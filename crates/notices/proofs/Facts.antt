@@ -19,7 +19,7 @@ use Rattle.rules.specs.declared.Queue.{Queue}
 use Rattle.rules.specs.declared.Refusal.{Refusal}
 use Rattle.rules.specs.declared.Saved.{Saved}
 use Rattle.rules.specs.declared.Taking.{Taking}
-use Rattle.rules.specs.Memory.{Machine, receiveSize, lists, list, listsFrom, aqrFrom, block}
+use Rattle.rules.specs.Memory.{Machine, receiveSize, lists, list, listsFrom, aqrFrom, block, blockSize}
 use Rattle.rules.specs.Queues.{hasRoom, entryWord}
 use Rattle.rules.specs.Board.{Board}
 use Rattle.rules.specs.Notices.{headOf, tokenOf, enqueues, placeOf, canPost, canPostAll, pushAqr}
@@ -28,7 +28,7 @@ use Rattle.sound.specs.Facts.{Ring, Sound}
 use Rattle.sound.proofs.Facts.{set-block}
 use Rattle.sound.proofs.Passing.{past-gate}
 use Rattle.notices.specs.declared.Step.{Step}
-use Rattle.notices.specs.Steps.{Pushable, Does, Postable, Listed, PostableAll, TakeableTo}
+use Rattle.notices.specs.Steps.{Pushable, Does, Postable, Listed, PostableAll, Takeable, TakeableTo}
 
 -- ---- from judging
 
@@ -70,10 +70,10 @@ takes-not : {why : Refusal} {l : ListIndex} {b next : BlockAddress} → Taking.N
 takes-not e = let z : _≡_ {A = ℕ} 0 1 = cc in omega arith
 
 -- A take that was judged to go.
-pub takeable : (m : Machine) (k room : ℕ) {l : ListIndex} {b next : BlockAddress} → judgeTake m k room ≡ Taking.Takes l b next
-    → TakeableTo (m .saved) (m .receive) (length (m .notices)) l b room
+goes : (m : Machine) (k room : ℕ) {l : ListIndex} {b next : BlockAddress} → judgeTake m k room ≡ Taking.Takes l b next
+    → Takeable (m .saved) (m .receive) (length (m .notices)) l b × (blockSize ≤ room)
 unfolding judgeTake
-takeable m k room {l} {b} h =
+goes m k room {l} {b} h =
     let place : ℕ = placeOf (m .receive) (list k) in
     let past = past-gate Taking.No m _ (λ why. takes-not) h in
     let sound = past .0 in
@@ -86,14 +86,18 @@ takeable m k room {l} {b} h =
     let low : k < lists = ltb-true _ _ (below .0) in
     let same : l ≡ list k = cc in
     let taken : b ≡ block place = cc in
+    let block : Takeable (m .saved) (m .receive) (length (m .notices)) l b =
     record {
-      block = record {
-        low = rw same low;
-        inside = rw taken (set-block (length (m .notices)) place (sound .places (list k) low) (not-true _ (set .0)) .inside);
-        push = pushable (m .saved .nbqr) (m .receive) (sound .nbqr) (sound .sized .receive) (free .0);
-      };
-      room = leb-true _ _ (long .0);
-    }
+      low = rw same low;
+      inside = rw taken (set-block (length (m .notices)) place (sound .places (list k) low) (not-true _ (set .0)) .inside);
+      push = pushable (m .saved .nbqr) (m .receive) (sound .nbqr) (sound .sized .receive) (free .0);
+    } in
+    (block, leb-true _ _ (long .0))
+
+-- A take that was judged can be acted on.
+pub takeable : (m : Machine) (k room : ℕ) {t : Taking} → judgeTake m k room ≡ t
+    → TakeableTo t (m .saved) (m .receive) (length (m .notices)) room
+takeable m k room h = record { block = λ l b next e. goes m k room (h ∙ e) .0; room = λ l b next e. goes m k room (h ∙ e) .1 }
 
 -- ---- which stores a posting does not mind
 
