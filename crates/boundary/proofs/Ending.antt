@@ -23,7 +23,7 @@ full w vs h =
     let l : 0 + length vs ≤ length w = omega arith in
     sets-eq vs w 0 l ∙ rw (zero-add (length vs), ← h, drop-length w) (append-nil vs)
 
--- The test of the two lengths did not fail.
+-- The test of the two lengths did not fail: both slices can be written, and the saved state's has its size.
 pub writable : {w answer : List ℕ} {ok : Bool} → ok ≡ lentOk (length w) (length answer) → not ok ≡ false → Writable w answer
 writable {w} {answer} {ok} said passed =
     let both : lentOk (length w) (length answer) ≡ true = sym said ∙ not-false ok passed in

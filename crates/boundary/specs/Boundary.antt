@@ -103,7 +103,7 @@ leaves o answer =
 abbrev pub machineOf : Lent → Machine
 machineOf l = machine (savedOf (l .saved)) (l .send) (l .receive) (l .bytes) (l .notices)
 
--- The saved state's slice has its size, the answer's has it or more.
+-- The saved state's slice has 15 words, the answer's 3 or more.
 abbrev pub lentOk : ℕ → ℕ → Bool
 lentOk saved answer = eqb saved savedSize && leb answerSize answer
 
@@ -115,20 +115,26 @@ exported call l =
     (left (o .reply) (leaves o (l .answer)))
     (left (refusalNumber Refusal.Sizes) l)
 
--- A call without a room returned a number, and left the lent slices, as it should.
+-- The slices as a call finds them, and as it leaves them, with what the room holds.
+abbrev pub lentBefore : Slice → Slice → Slice → Slice → Slice → List ℕ → Slice → Lent
+lentBefore saved send receive bytes notices room answer =
+    lent (now (saved .entry)) (now (send .entry)) (now (receive .entry)) (now (bytes .entry)) (now (notices .entry)) room (now (answer .entry))
+
+abbrev pub lentAfter : Slice → Slice → Slice → Slice → Slice → List ℕ → Slice → Lent
+lentAfter saved send receive bytes notices room answer =
+    lent (now (saved .exit)) (now (send .exit)) (now (receive .exit)) (now (bytes .exit)) (now (notices .exit)) room (now (answer .exit))
+
+-- A call without a room returned a number, and left the slices, as it should.
 abbrev pub Exports : (Machine → Outcome) → ℕ → Slice → Slice → Slice → Slice → Slice → Slice → Type 0
 Exports call r saved send receive bytes notices answer =
-    left r (lent (now (saved .exit)) (now (send .exit)) (now (receive .exit)) (now (bytes .exit)) (now (notices .exit)) [] (now (answer .exit)))
-    ≡ exported (λ m room. call m)
-    (lent (now (saved .entry)) (now (send .entry)) (now (receive .entry)) (now (bytes .entry)) (now (notices .entry)) [] (now (answer .entry)))
+    left r (lentAfter saved send receive bytes notices [] answer)
+    ≡ exported (λ m room. call m) (lentBefore saved send receive bytes notices [] answer)
 
--- One that fills a room.
+-- One with a room.
 abbrev pub ExportsFilling : (Machine → List ℕ → Outcome) → ℕ → Slice → Slice → Slice → Slice → Slice → Slice → Slice → Type 0
 ExportsFilling call r saved send receive bytes notices room answer =
-    left r
-    (lent (now (saved .exit)) (now (send .exit)) (now (receive .exit)) (now (bytes .exit)) (now (notices .exit)) (now (room .exit)) (now (answer .exit)))
-    ≡ exported call
-    (lent (now (saved .entry)) (now (send .entry)) (now (receive .entry)) (now (bytes .entry)) (now (notices .entry)) (now (room .entry)) (now (answer .entry)))
+    left r (lentAfter saved send receive bytes notices (now (room .exit)) answer)
+    ≡ exported call (lentBefore saved send receive bytes notices (now (room .entry)) answer)
 
 -- ---- how it ends
 
