@@ -41,10 +41,10 @@ unfolding sendCall
 send-whole m ready room judged does = does ∙ ap (actSend m room) judged
 
 -- The take.
-pub take-whole : (m : Machine) (l : ℕ) (room : List ℕ) {v told : Taking} {o : Outcome} → v ≡ judgeTake m l (length room) → v ≡ told
-    → o ≡ actTake m room told → o ≡ takeCall m l room
+pub take-whole : (m : Machine) (l : ℕ) (room : List ℕ) {v : Taking} {o : Outcome} → v ≡ judgeTake m l (length room) → o ≡ actTake m room v
+    → o ≡ takeCall m l room
 unfolding takeCall
-take-whole m l room judged tells does = does ∙ ap (actTake m room) (sym tells ∙ judged)
+take-whole m l room judged does = does ∙ ap (actTake m room) judged
 
 -- An unknown call.
 pub unknown-whole : (m : Machine) {why : Refusal} {o : Outcome} → why ≡ gate (λ refusal. refusal) m Refusal.NoRegister → o ≡ refused why m []

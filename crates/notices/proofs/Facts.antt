@@ -14,7 +14,7 @@ use Rattle.rules.specs.declared.Posting.{Posting}
 use Rattle.rules.specs.declared.Queue.{Queue}
 use Rattle.rules.specs.declared.Saved.{Saved}
 use Rattle.rules.specs.declared.Taking.{Taking}
-use Rattle.rules.specs.Memory.{Machine, receiveSize, lists, listsFrom, aqrFrom, isBlockOrNone}
+use Rattle.rules.specs.Memory.{Machine, receiveSize, blockSize, lists, listsFrom, aqrFrom, isBlockOrNone}
 use Rattle.rules.specs.Queues.{hasRoom, entryWord}
 use Rattle.rules.specs.Board.{Board}
 use Rattle.rules.specs.Notices.{headOf, tokenOf, canPost, canPostAll, pushAqr}
@@ -26,7 +26,7 @@ use Rattle.laws.proofs.Sound.{set-block}
 use Rattle.laws.proofs.Postings.{can-post}
 use Rattle.laws.proofs.Verdicts.{of-take}
 use Rattle.notices.specs.declared.Step.{Step}
-use Rattle.notices.specs.Steps.{Pushable, Does, Postable, PostableAll, TakeableTo}
+use Rattle.notices.specs.Steps.{Pushable, Does, Postable, PostableAll, Takeable, TakeableTo}
 
 -- ---- from judging
 
@@ -56,18 +56,17 @@ module _ (s : Saved) (receive : List ℕ) (n : ℕ) (size : length receive ≡ r
   postable-all p heads listed h = record { on = λ l m e. let low : l .0 < lists = listed .low l m e in postable l low (heads l low) (rw e at h) }
 
 -- A take that was judged to go.
-pub takeable : (m : Machine) (k room : ℕ) {l : ListIndex} {b next : BlockAddress} → judgeTake m k room ≡ Taking.Takes l b next
-    → TakeableTo (m .saved) (m .receive) (length (m .notices)) l b room
-takeable m k room {l} {b} {next} h =
+goes : (m : Machine) (k room : ℕ) {l : ListIndex} {b next : BlockAddress} → judgeTake m k room ≡ Taking.Takes l b next
+    → Takeable (m .saved) (m .receive) (length (m .notices)) l b × (blockSize ≤ room)
+goes m k room {l} {b} {next} h =
     let t : ReadersBlock m room l b next = rw h at (of-take m k room) in
-    record {
-      block = record {
-        low = t .low;
-        inside = t .here .inside;
-        push = record { size = t .sound .sized .receive; place = t .sound .nbqr .place; room = t .queue };
-      };
-      room = t .long;
-    }
+    let push : Pushable (m .saved .nbqr) (m .receive) = record { size = t .sound .sized .receive; place = t .sound .nbqr .place; room = t .queue } in
+    (record { low = t .low; inside = t .here .inside; push = push }, t .long)
+
+-- A take that was judged can be acted on.
+pub takeable : (m : Machine) (k room : ℕ) {t : Taking} → judgeTake m k room ≡ t
+    → TakeableTo t (m .saved) (m .receive) (length (m .notices)) room
+takeable m k room h = record { block = λ l b next e. goes m k room (h ∙ e) .0; room = λ l b next e. goes m k room (h ∙ e) .1 }
 
 -- ---- which stores a posting does not mind
 

@@ -17,6 +17,8 @@ use Rattle.rules.specs.declared.BlockAddress.{BlockAddress}
 use Rattle.rules.specs.declared.Notice.{Notice}
 use Rattle.rules.specs.declared.Posting.{Posting}
 use Rattle.rules.specs.declared.queues.Removal.{Removal}
+use Rattle.rules.specs.declared.Answer.{Answer}
+use Rattle.rules.specs.declared.Refusal.{Refusal}
 use Rattle.rules.specs.declared.Reply.{Reply}
 use Rattle.rules.specs.declared.Taking.{Taking}
 use Rattle.rules.specs.declared.Verdict.{Verdict}
@@ -26,11 +28,12 @@ use Rattle.rules.specs.Queues.{oldest, removed}
 use Rattle.rules.specs.Board.{Board}
 use Rattle.rules.specs.Notices.{blockWords, enqueues, token, placeOf, emptyInterrupt, fillHead, pushNqr, enqueueToken, post, postAll, takeBlock}
 use Rattle.rules.specs.Calls.{wordsOf, actTake}
+use Rattle.replies.specs.Refusing.{Refuses}
 use Rattle.sound.specs.Gated.{Gated}
 use Rattle.laws.proofs.Sound.{set-block}
 use Rattle.sound.proofs.Passing.{gated-sound}
 use Rattle.notices.specs.declared.Step.{Step}
-use Rattle.notices.specs.Steps.{Pushable, Returns, Does, Posts, Enqueues, Postable, Takes, Acts}
+use Rattle.notices.specs.Steps.{Pushable, Returns, Does, Posts, Enqueues, Postable, Takeable, TakeableTo, Takes, Acts}
 
 -- ---- blocks
 
@@ -136,10 +139,30 @@ pub taken : (l : ListIndex) (b next : BlockAddress) (s s₂ : Saved) (receive re
 unfolding takeBlock
 taken l b next s s₂ receive receive₂ notices place first p f r = record { whole = λ sum. r .whole (set notices (first + 3) 0) sum ∙ rw (p, f) }
 
--- The words in the room, the value, and the block off its list.
-pub acted : (l : ListIndex) (b next : BlockAddress) (s s₂ : Saved) (receive receive₂ notices notices₂ room room₂ : List ℕ) (first : ℕ)
-    → first ≡ blockFirst b → room₂ ≡ over (wordsOf notices b) room → Takes l b next s receive notices s₂ receive₂ notices₂
-    → Acts (Taking.Takes l b next) s receive notices room (record { reply = Reply.Done (getD notices first 0); interrupts = 0; saved = s₂ })
-    receive₂ notices₂ room₂
-unfolding actTake
-acted l b next s s₂ receive receive₂ notices notices₂ room room₂ first f e t = record { whole = λ send bytes. rw (f, e, ← t .whole 0) }
+-- What a verdict to take asks.
+module _ {t : Taking} {s : Saved} {receive : List ℕ} {n words : ℕ} (a : TakeableTo t s receive n words) (l : ListIndex) (b next : BlockAddress) where
+  pub take-asks : t ≡ Taking.Takes l b next → Takeable s receive n l b
+  take-asks e = a .block l b next e
+
+  pub block-asks : t ≡ Taking.Takes l b next → blockFirst b + 8 ≤ n
+  block-asks e = a .block l b next e .inside
+
+  pub room-asks : t ≡ Taking.Takes l b next → 8 ≤ words
+  room-asks e = a .room l b next e
+
+  pub value-asks : {first : ℕ} → t ≡ Taking.Takes l b next → first ≡ blockFirst b → first < n
+  value-asks e f = omega (arith, f, a .block l b next e .inside)
+
+-- By what was judged.
+module _ (t : Taking) (s : Saved) (receive notices room : List ℕ) where
+  -- A refusal changes nothing.
+  pub acts-no : (why : Refusal) (r : Answer) → t ≡ Taking.No why → Refuses s why r → Acts t s receive notices room r receive notices room
+  unfolding actTake
+  acts-no why r e told = record { whole = λ send bytes. rw e (told .whole send receive bytes notices room) }
+
+  -- The words in the room, the value, and the block off its list.
+  pub acts-takes : (l : ListIndex) (b next : BlockAddress) (s₂ : Saved) (receive₂ notices₂ room₂ : List ℕ) (first : ℕ) → t ≡ Taking.Takes l b next
+      → first ≡ blockFirst b → room₂ ≡ over (wordsOf notices b) room → Takes l b next s receive notices s₂ receive₂ notices₂
+      → Acts t s receive notices room (record { reply = Reply.Done (getD notices first 0); interrupts = 0; saved = s₂ }) receive₂ notices₂ room₂
+  unfolding actTake
+  acts-takes l b next s₂ receive₂ notices₂ room₂ first is f e took = record { whole = λ send bytes. rw (is, f, e, ← took .whole 0) }

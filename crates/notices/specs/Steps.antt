@@ -81,15 +81,15 @@ pub record Takeable (s : Saved) (receive : List ℕ) (n : ℕ) (l : ListIndex) (
   pub inside : blockFirst b + blockSize ≤ n
   pub push : Pushable (s .nbqr) receive
 
--- It can be taken to a room of so many words.
-pub record TakeableTo (s : Saved) (receive : List ℕ) (n : ℕ) (l : ListIndex) (b : BlockAddress) (words : ℕ) : Type 0 where
-  pub block : Takeable s receive n l b
-  pub room : blockSize ≤ words
+-- A take into a room of so many words can be acted on; a refusal asks nothing.
+pub record TakeableTo (t : Taking) (s : Saved) (receive : List ℕ) (n words : ℕ) : Type 0 where
+  pub block : (l : ListIndex) (b next : BlockAddress) → t ≡ Taking.Takes l b next → Takeable s receive n l b
+  pub room : (l : ListIndex) (b next : BlockAddress) → t ≡ Taking.Takes l b next → blockSize ≤ words
 
 -- A block was taken off its list.
 pub record Takes (l : ListIndex) (b next : BlockAddress) (s : Saved) (receive notices : List ℕ) (s₂ : Saved) (receive₂ notices₂ : List ℕ) : Type 0 where
   pub whole : (sum : ℕ) → board s₂ receive₂ notices₂ sum ≡ takeBlock l b next (board s receive notices sum)
 
--- A take was carried out.
+-- A take was carried out or refused.
 pub record Acts (t : Taking) (s : Saved) (receive notices room : List ℕ) (r : Answer) (receive₂ notices₂ room₂ : List ℕ) : Type 0 where
   pub whole : (send bytes : List ℕ) → answered r send receive₂ bytes notices₂ room₂ ≡ actTake (machine s send receive bytes notices) room t

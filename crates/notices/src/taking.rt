@@ -1,5 +1,6 @@
 // The take: which block it takes, or why it is refused; and what it moves.
 use crate::blocks;
+use replies::refuse;
 use rules::Answer;
 use rules::BlockAddress;
 use rules::ListIndex;
@@ -82,25 +83,29 @@ fn take_block(
     blocks::push_nbqr(b, s, receive)
 }
 
-// A take that goes on: the block's words come to the room, and its word 0 is the value.
+// By what was judged: a block's words come to the room, and its word 0 is the value.
 pub fn act_take(
-    l: ListIndex,
-    b: BlockAddress,
-    next: BlockAddress,
+    t: Taking,
     s: Saved,
     receive: &mut [u32],
     notices: &mut [u32],
     room: &mut [u32],
 ) -> Answer
-    requires { ⌜ TakeableTo s (now receive) (length (now notices)) l b (length (now room)) ⌝ }
-    ensures { λ r. ⌜ Acts (Taking.Takes l b next) s (now (receive .entry)) (now (notices .entry)) (now (room .entry)) r (now (receive .exit)) (now (notices .exit)) (now (room .exit)) ⌝ }
+    requires { ⌜ TakeableTo t s (now receive) (length (now notices)) (length (now room)) ⌝ }
+    ensures { λ r. ⌜ Acts t s (now (receive .entry)) (now (notices .entry)) (now (room .entry)) r
+        (now (receive .exit)) (now (notices .exit)) (now (room .exit)) ⌝ }
 {
-    blocks::copy_block(notices, b, room);
-    let value = notices[blocks::block_first(b)];
-    let saved = take_block(l, b, next, s, receive, notices);
-    Answer {
-        reply: Reply::Done(value),
-        interrupts: 0,
-        saved,
+    match t {
+        Taking::No(why) => refuse(s, why),
+        Taking::Takes(l, b, next) => {
+            blocks::copy_block(notices, b, room);
+            let value = notices[blocks::block_first(b)];
+            let saved = take_block(l, b, next, s, receive, notices);
+            Answer {
+                reply: Reply::Done(value),
+                interrupts: 0,
+                saved,
+            }
+        }
     }
 }

@@ -1,7 +1,7 @@
 -- `engine::refusing::unknown` meets its contract. Assumes nothing.
 use borrow.Author.Needs.{needs}
 use mathlib.Core.List.{[]}
-use mathlib.Core.Path.{refl}
+use mathlib.Core.Logic.{⊎-elim}
 use Rattle.sound.proofs.Passing.{gated-go, gated-no}
 use Rattle.engine.proofs.Verdicts.{unknown-whole}
 use Rattle.engine.proofs.refusing.unknown.Statement.{statement}
@@ -13,12 +13,11 @@ unknown-spec =
     (tie.spec
     (λ c κs. search needs)
     (λ c. search needs)
-    (λ c κs. search needs)
     (λ c. search needs)
     (λ c κs. search needs)
     (λ c.
-    let told = c .before .before in
-    unknown-whole _ (gated-no _ _ _ _ _ (told .before .before .gate .ensures) (λ why. why) _ (told .why .given .1) refl) (c .refuse .ensures .whole _ _ _ _ []))
-    (λ c.
-    let told = c .before in
-    unknown-whole _ (gated-go _ _ _ _ _ (told .before .before .gate .ensures) (λ why. why) (told .enum-told .given .1) refl) (c .refuse2 .ensures .whole _ _ _ _ [])))
+    let gated = c .before .before .gate .ensures in
+    unknown-whole _
+    (⊎-elim (λ w. gated-no _ _ _ _ _ gated (λ why. why) _ (w .1 .given .1) (w .3)) (λ w. gated-go _ _ _ _ _ gated (λ why. why) (w .1 .given .1) (w .2))
+    (c .before .match .came))
+    (c .refuse .ensures .whole _ _ _ _ [])))
