@@ -1,8 +1,9 @@
 -- A call over plain slices and numbers. Assumes nothing.
 use Prim.Native.Nat.{ℕ, _≤_}
 use mathlib.Core.Path.{_≡_}
-use mathlib.Core.Bool.{_&&_}
+use mathlib.Core.Bool.{Bool, _&&_}
 use mathlib.Core.List.{List, [], _∷_}
+use denote.Ref.{now}
 use lib.Dec.{eqb, leb}
 use lib.ListN.{length, getD}
 use lib.Seq.{sets}
@@ -12,6 +13,7 @@ use Rattle.rules.specs.declared.Refusal.{Refusal}
 use Rattle.rules.specs.declared.Saved.{Saved}
 use Rattle.rules.specs.Memory.{Machine, machine}
 use Rattle.rules.specs.Replies.{Outcome, refusalNumber, replyNumber, replyValue}
+use Rattle.engine.specs.Lent.{Slice}
 
 -- ---- the saved state in words
 
@@ -101,13 +103,32 @@ leaves o answer =
 abbrev pub machineOf : Lent → Machine
 machineOf l = machine (savedOf (l .saved)) (l .send) (l .receive) (l .bytes) (l .notices)
 
--- A saved state of 15 words and an answer of 3 or more: the call's outcome. Else 13, sizes, and nothing is written.
+-- The saved state's slice has its size, the answer's has it or more.
+abbrev pub lentOk : ℕ → ℕ → Bool
+lentOk saved answer = eqb saved savedSize && leb answerSize answer
+
+-- Then the call's outcome. Else 13, sizes, and nothing is written.
 unfoldable pub exported : (Machine → List ℕ → Outcome) → Lent → Left
 exported call l =
     let o = call (machineOf l) (l .room) in
-    pick (eqb (length (l .saved)) savedSize && leb answerSize (length (l .answer)))
+    pick (lentOk (length (l .saved)) (length (l .answer)))
     (left (o .reply) (leaves o (l .answer)))
     (left (refusalNumber Refusal.Sizes) l)
+
+-- A call without a room returned a number, and left the lent slices, as it should.
+abbrev pub Exports : (Machine → Outcome) → ℕ → Slice → Slice → Slice → Slice → Slice → Slice → Type 0
+Exports call r saved send receive bytes notices answer =
+    left r (lent (now (saved .exit)) (now (send .exit)) (now (receive .exit)) (now (bytes .exit)) (now (notices .exit)) [] (now (answer .exit)))
+    ≡ exported (λ m room. call m)
+    (lent (now (saved .entry)) (now (send .entry)) (now (receive .entry)) (now (bytes .entry)) (now (notices .entry)) [] (now (answer .entry)))
+
+-- One that fills a room.
+abbrev pub ExportsFilling : (Machine → List ℕ → Outcome) → ℕ → Slice → Slice → Slice → Slice → Slice → Slice → Slice → Type 0
+ExportsFilling call r saved send receive bytes notices room answer =
+    left r
+    (lent (now (saved .exit)) (now (send .exit)) (now (receive .exit)) (now (bytes .exit)) (now (notices .exit)) (now (room .exit)) (now (answer .exit)))
+    ≡ exported call
+    (lent (now (saved .entry)) (now (send .entry)) (now (receive .entry)) (now (bytes .entry)) (now (notices .entry)) (now (room .entry)) (now (answer .entry)))
 
 -- ---- how it ends
 

@@ -1,10 +1,10 @@
 // The receive.
+use crate::words::SIZES;
 use crate::words::finish;
+use crate::words::lent_ok;
 use crate::words::load;
-ghost use mathlib.Core.List.{[]};
-ghost use mathlib.Core.Path.{_≡_};
 ghost use Rattle.rules.specs.Calls.{receiveCall};
-ghost use Rattle.boundary.specs.Boundary.{lent, left, exported};
+ghost use Rattle.boundary.specs.Boundary.{Exports};
 
 // A receipt of a packet.
 #[no_mangle]
@@ -17,13 +17,10 @@ pub extern "C" fn valmthosh_receive(
     packet: &[u8],
     answer: &mut [u32],
 ) -> u32
-    ensures { λ r. ⌜ left r (lent (now (saved .exit)) (now (send .entry)) (now (receive .exit)) (now (bytes .exit)) (now (notices .exit)) [] (now (answer .exit))) ≡ exported (λ m room. receiveCall m (now (packet .entry))) (lent (now (saved .entry)) (now (send .entry)) (now (receive .entry)) (now (bytes .entry)) (now (notices .entry)) [] (now (answer .entry))) ⌝ }
+    ensures { λ r. ⌜ Exports (λ m. receiveCall m (now (packet .entry))) r saved send receive bytes notices answer ⌝ }
 {
-    if saved.len() != 15 {
-        return 13;
-    }
-    if answer.len() < 3 {
-        return 13;
+    if !lent_ok(saved.len(), answer.len()) {
+        return SIZES;
     }
     let s = load(saved);
     let a = engine::receive(s, send, receive, bytes, notices, packet);

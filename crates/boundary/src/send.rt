@@ -1,10 +1,11 @@
 // The send.
+use crate::words::SIZES;
 use crate::words::finish;
+use crate::words::lent_ok;
 use crate::words::load;
 ghost use lib.Dec.{eqb};
-ghost use mathlib.Core.Path.{_≡_};
 ghost use Rattle.rules.specs.Calls.{sendCall};
-ghost use Rattle.boundary.specs.Boundary.{lent, left, exported};
+ghost use Rattle.boundary.specs.Boundary.{ExportsFilling};
 
 // A send into a packet room, with the fabric ready (1) or not (anything else).
 #[no_mangle]
@@ -18,13 +19,10 @@ pub extern "C" fn valmthosh_send(
     room: &mut [u8],
     answer: &mut [u32],
 ) -> u32
-    ensures { λ r. ⌜ left r (lent (now (saved .exit)) (now (send .exit)) (now (receive .exit)) (now (bytes .entry)) (now (notices .exit)) (now (room .exit)) (now (answer .exit))) ≡ exported (λ m room. sendCall m (eqb ready 1) room) (lent (now (saved .entry)) (now (send .entry)) (now (receive .entry)) (now (bytes .entry)) (now (notices .entry)) (now (room .entry)) (now (answer .entry))) ⌝ }
+    ensures { λ r. ⌜ ExportsFilling (λ m room. sendCall m (eqb ready 1) room) r saved send receive bytes notices room answer ⌝ }
 {
-    if saved.len() != 15 {
-        return 13;
-    }
-    if answer.len() < 3 {
-        return 13;
+    if !lent_ok(saved.len(), answer.len()) {
+        return SIZES;
     }
     let s = load(saved);
     let a = engine::send(s, send, receive, bytes, notices, ready == 1, room);

@@ -1,9 +1,10 @@
 // The take.
+use crate::words::SIZES;
 use crate::words::finish;
+use crate::words::lent_ok;
 use crate::words::load;
-ghost use mathlib.Core.Path.{_≡_};
 ghost use Rattle.rules.specs.Calls.{takeCall};
-ghost use Rattle.boundary.specs.Boundary.{lent, left, exported};
+ghost use Rattle.boundary.specs.Boundary.{ExportsFilling};
 
 // A take from the list with that number, into a notice room.
 #[no_mangle]
@@ -17,13 +18,10 @@ pub extern "C" fn valmthosh_take(
     room: &mut [u32],
     answer: &mut [u32],
 ) -> u32
-    ensures { λ r. ⌜ left r (lent (now (saved .exit)) (now (send .entry)) (now (receive .exit)) (now (bytes .entry)) (now (notices .exit)) (now (room .exit)) (now (answer .exit))) ≡ exported (λ m room. takeCall m list room) (lent (now (saved .entry)) (now (send .entry)) (now (receive .entry)) (now (bytes .entry)) (now (notices .entry)) (now (room .entry)) (now (answer .entry))) ⌝ }
+    ensures { λ r. ⌜ ExportsFilling (λ m room. takeCall m list room) r saved send receive bytes notices room answer ⌝ }
 {
-    if saved.len() != 15 {
-        return 13;
-    }
-    if answer.len() < 3 {
-        return 13;
+    if !lent_ok(saved.len(), answer.len()) {
+        return SIZES;
     }
     let s = load(saved);
     let a = engine::take(s, send, receive, bytes, notices, list, room);

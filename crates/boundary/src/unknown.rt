@@ -1,10 +1,10 @@
 // The call of no known kind.
+use crate::words::SIZES;
 use crate::words::finish;
+use crate::words::lent_ok;
 use crate::words::load;
-ghost use mathlib.Core.List.{[]};
-ghost use mathlib.Core.Path.{_≡_};
 ghost use Rattle.rules.specs.Calls.{unknownCall};
-ghost use Rattle.boundary.specs.Boundary.{lent, left, exported};
+ghost use Rattle.boundary.specs.Boundary.{Exports};
 
 // An unknown call. C has none, since it names one of the five.
 pub fn unknown_call(
@@ -15,13 +15,10 @@ pub fn unknown_call(
     notices: &[u32],
     answer: &mut [u32],
 ) -> u32
-    ensures { λ r. ⌜ left r (lent (now (saved .exit)) (now (send .entry)) (now (receive .entry)) (now (bytes .entry)) (now (notices .entry)) [] (now (answer .exit))) ≡ exported (λ m room. unknownCall m) (lent (now (saved .entry)) (now (send .entry)) (now (receive .entry)) (now (bytes .entry)) (now (notices .entry)) [] (now (answer .entry))) ⌝ }
+    ensures { λ r. ⌜ Exports unknownCall r saved send receive bytes notices answer ⌝ }
 {
-    if saved.len() != 15 {
-        return 13;
-    }
-    if answer.len() < 3 {
-        return 13;
+    if !lent_ok(saved.len(), answer.len()) {
+        return SIZES;
     }
     let s = load(saved);
     let a = engine::unknown(s, send, receive, bytes, notices);

@@ -4,7 +4,23 @@ use rules::Queue;
 use rules::Saved;
 ghost use mathlib.Core.Path.{_≡_};
 ghost use lib.ListN.{length};
-ghost use Rattle.boundary.specs.Boundary.{savedSize, savedOf, wordsOf, Writable, Ends};
+ghost use Rattle.boundary.specs.Boundary.{savedSize, lentOk, savedOf, wordsOf, Writable, Ends};
+
+// A saved state has so many words.
+const SAVED_WORDS: usize = 15;
+
+// An answer has so many, and stands in the first of the lent ones.
+const ANSWER_WORDS: usize = 3;
+
+// "sizes", where these words are not lent.
+pub(crate) const SIZES: u32 = 13;
+
+// They are lent, by the two lengths.
+pub(crate) fn lent_ok(saved: usize, answer: usize) -> bool
+    ensures { λ r. ⌜ r ≡ lentOk saved answer ⌝ }
+{
+    (saved == SAVED_WORDS) & (ANSWER_WORDS <= answer)
+}
 
 // The state that 15 words say.
 pub fn load(w: &[u32]) -> Saved

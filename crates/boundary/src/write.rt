@@ -1,10 +1,10 @@
 // The write.
+use crate::words::SIZES;
 use crate::words::finish;
+use crate::words::lent_ok;
 use crate::words::load;
-ghost use mathlib.Core.List.{[]};
-ghost use mathlib.Core.Path.{_≡_};
 ghost use Rattle.rules.specs.Calls.{writeCall};
-ghost use Rattle.boundary.specs.Boundary.{lent, left, exported};
+ghost use Rattle.boundary.specs.Boundary.{Exports};
 
 // A write of a value to the register with that number.
 #[no_mangle]
@@ -18,13 +18,10 @@ pub extern "C" fn valmthosh_write(
     value: u32,
     answer: &mut [u32],
 ) -> u32
-    ensures { λ r. ⌜ left r (lent (now (saved .exit)) (now (send .exit)) (now (receive .exit)) (now (bytes .entry)) (now (notices .exit)) [] (now (answer .exit))) ≡ exported (λ m room. writeCall m register value) (lent (now (saved .entry)) (now (send .entry)) (now (receive .entry)) (now (bytes .entry)) (now (notices .entry)) [] (now (answer .entry))) ⌝ }
+    ensures { λ r. ⌜ Exports (λ m. writeCall m register value) r saved send receive bytes notices answer ⌝ }
 {
-    if saved.len() != 15 {
-        return 13;
-    }
-    if answer.len() < 3 {
-        return 13;
+    if !lent_ok(saved.len(), answer.len()) {
+        return SIZES;
     }
     let s = load(saved);
     let a = engine::write(s, send, receive, bytes, notices, register, value);

@@ -3,9 +3,8 @@ use rules::Answer;
 use rules::Saved;
 ghost use mathlib.Core.List.{[]};
 ghost use mathlib.Core.Path.{_≡_};
-ghost use Rattle.rules.specs.Memory.{machine};
-ghost use Rattle.rules.specs.Replies.{answered};
 ghost use Rattle.rules.specs.Calls.{readCall};
+ghost use Rattle.engine.specs.Lent.{before, leaves};
 
 // A read of the register with that number.
 pub fn read(
@@ -16,7 +15,7 @@ pub fn read(
     notices: &[u32],
     register: u32,
 ) -> Answer
-    ensures { λ r. ⌜ answered r (now (send .entry)) (now (receive .entry)) (now (bytes .entry)) (now (notices .entry)) [] ≡ readCall (machine s (now (send .entry)) (now (receive .entry)) (now (bytes .entry)) (now (notices .entry))) register ⌝ }
+    ensures { λ r. ⌜ leaves r send receive bytes notices [] ≡ readCall (before s send receive bytes notices) register ⌝ }
 {
     let reached = registers::judge_read(s, send, receive, bytes, notices, register);
     registers::act_read(registers::decode(register), reached, s, send, receive)

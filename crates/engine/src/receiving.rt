@@ -5,9 +5,8 @@ use rules::Receiving;
 use rules::Saved;
 ghost use mathlib.Core.List.{[]};
 ghost use mathlib.Core.Path.{_≡_};
-ghost use Rattle.rules.specs.Memory.{machine};
-ghost use Rattle.rules.specs.Replies.{answered};
 ghost use Rattle.rules.specs.Calls.{receiveCall};
+ghost use Rattle.engine.specs.Lent.{before, leaves};
 
 // A receipt of a packet.
 pub fn receive(
@@ -18,7 +17,7 @@ pub fn receive(
     notices: &mut [u32],
     packet: &[u8],
 ) -> Answer
-    ensures { λ r. ⌜ answered r (now (send .entry)) (now (receive .exit)) (now (bytes .exit)) (now (notices .exit)) [] ≡ receiveCall (machine s (now (send .entry)) (now (receive .entry)) (now (bytes .entry)) (now (notices .entry))) (now (packet .entry)) ⌝ }
+    ensures { λ r. ⌜ leaves r send receive bytes notices [] ≡ receiveCall (before s send receive bytes notices) (now (packet .entry)) ⌝ }
 {
     match receiver::judge_receive(s, send, receive, bytes, notices, packet) {
         Receiving::No(why) => refuse(s, why),

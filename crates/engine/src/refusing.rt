@@ -6,13 +6,12 @@ use rules::Saved;
 use rules::Verdict;
 ghost use mathlib.Core.List.{[]};
 ghost use mathlib.Core.Path.{_≡_};
-ghost use Rattle.rules.specs.Memory.{machine};
-ghost use Rattle.rules.specs.Replies.{answered};
 ghost use Rattle.rules.specs.Calls.{unknownCall};
+ghost use Rattle.engine.specs.Lent.{before, leaves};
 
 // no-register: "unknown call".
 pub fn unknown(s: Saved, send: &[u32], receive: &[u32], bytes: &[u8], notices: &[u32]) -> Answer
-    ensures { λ r. ⌜ answered r (now (send .entry)) (now (receive .entry)) (now (bytes .entry)) (now (notices .entry)) [] ≡ unknownCall (machine s (now (send .entry)) (now (receive .entry)) (now (bytes .entry)) (now (notices .entry))) ⌝ }
+    ensures { λ r. ⌜ leaves r send receive bytes notices [] ≡ unknownCall (before s send receive bytes notices) ⌝ }
 {
     match sound::gate(s, send, receive, bytes.len(), notices.len()) {
         Verdict::No(why) => refuse(s, why),

@@ -2,9 +2,8 @@
 use rules::Answer;
 use rules::Saved;
 ghost use mathlib.Core.Path.{_≡_};
-ghost use Rattle.rules.specs.Memory.{machine};
-ghost use Rattle.rules.specs.Replies.{answered};
 ghost use Rattle.rules.specs.Calls.{sendCall};
+ghost use Rattle.engine.specs.Lent.{before, fills};
 
 // A send, with the fabric ready or not, into a packet room.
 pub fn send(
@@ -16,7 +15,7 @@ pub fn send(
     ready: bool,
     room: &mut [u8],
 ) -> Answer
-    ensures { λ r. ⌜ answered r (now (send .exit)) (now (receive .exit)) (now (bytes .entry)) (now (notices .exit)) (now (room .exit)) ≡ sendCall (machine s (now (send .entry)) (now (receive .entry)) (now (bytes .entry)) (now (notices .entry))) ready (now (room .entry)) ⌝ }
+    ensures { λ r. ⌜ fills r send receive bytes notices room ≡ sendCall (before s send receive bytes notices) ready (now (room .entry)) ⌝ }
 {
     let sending = sender::judge_send(s, send, receive, bytes, notices, ready, room.len());
     sender::act_send(sending, s, send, receive, bytes, notices, room)

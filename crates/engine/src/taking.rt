@@ -4,9 +4,8 @@ use rules::Answer;
 use rules::Saved;
 use rules::Taking;
 ghost use mathlib.Core.Path.{_≡_};
-ghost use Rattle.rules.specs.Memory.{machine};
-ghost use Rattle.rules.specs.Replies.{answered};
 ghost use Rattle.rules.specs.Calls.{takeCall};
+ghost use Rattle.engine.specs.Lent.{before, fills};
 
 // A take from the list with that number, into a notice room.
 pub fn take(
@@ -18,7 +17,7 @@ pub fn take(
     list: u32,
     room: &mut [u32],
 ) -> Answer
-    ensures { λ r. ⌜ answered r (now (send .entry)) (now (receive .exit)) (now (bytes .entry)) (now (notices .exit)) (now (room .exit)) ≡ takeCall (machine s (now (send .entry)) (now (receive .entry)) (now (bytes .entry)) (now (notices .entry))) list (now (room .entry)) ⌝ }
+    ensures { λ r. ⌜ fills r send receive bytes notices room ≡ takeCall (before s send receive bytes notices) list (now (room .entry)) ⌝ }
 {
     match notices::judge_take(s, send, receive, bytes, notices, list, room.len()) {
         Taking::No(why) => refuse(s, why),

@@ -3,9 +3,8 @@ use rules::Answer;
 use rules::Saved;
 ghost use mathlib.Core.List.{[]};
 ghost use mathlib.Core.Path.{_≡_};
-ghost use Rattle.rules.specs.Memory.{machine};
-ghost use Rattle.rules.specs.Replies.{answered};
 ghost use Rattle.rules.specs.Calls.{writeCall};
+ghost use Rattle.engine.specs.Lent.{before, leaves};
 
 // A write of a value to the register with that number.
 pub fn write(
@@ -17,7 +16,7 @@ pub fn write(
     register: u32,
     value: u32,
 ) -> Answer
-    ensures { λ r. ⌜ answered r (now (send .exit)) (now (receive .exit)) (now (bytes .entry)) (now (notices .exit)) [] ≡ writeCall (machine s (now (send .entry)) (now (receive .entry)) (now (bytes .entry)) (now (notices .entry))) register value ⌝ }
+    ensures { λ r. ⌜ leaves r send receive bytes notices [] ≡ writeCall (before s send receive bytes notices) register value ⌝ }
 {
     let writing = registers::judge_write(s, send, receive, bytes, notices, register, value);
     registers::act_write(writing, s, send, receive, notices, register, value)

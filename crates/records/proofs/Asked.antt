@@ -10,12 +10,11 @@ use Rattle.ground.specs.Bytes.{wordAt}
 use Rattle.ground.specs.Choice.{pick}
 use Rattle.ground.specs.Lists.{part}
 use Rattle.ground.proofs.Choice.{pick-yes, pick-no}
-use Rattle.rules.specs.declared.Answer.{Answer}
 use Rattle.rules.specs.Memory.{Machine}
-use Rattle.rules.specs.Replies.{answered}
+use Rattle.rules.specs.Replies.{Outcome}
 use Rattle.rules.specs.Calls.{Call, writes, reads, receives, sends, takes, unknown, perform}
 use Rattle.rules.specs.Station.{recordSize, kindOf, firstNumber, secondNumber, recordPacket, packetRoom, noticeRoom, callOf}
-use Rattle.records.specs.Records.{PacketTo, outcomeOf, Gives}
+use Rattle.records.specs.Records.{PacketTo, Gives}
 
 -- ---- the packet
 
@@ -81,6 +80,5 @@ module _ (r : List ℕ) (whole : length r ≡ recordSize) where
   call-unknown a b c d e = rw (← kind-whole, ne-eqb _ 1 a, ne-eqb _ 2 b, ne-eqb _ 3 c, ne-eqb _ 4 d, ne-eqb _ 5 e) refl
 
 -- The call that was made is the one asked for.
-pub gives : (r : List ℕ) (m : Machine) {c : Call} {a : Answer} {send receive bytes notices : List ℕ} (room : List ℕ) → callOf r ≡ c
-    → answered a send receive bytes notices room ≡ perform c m → Gives (outcomeOf m r) a send receive bytes notices
+pub gives : (r : List ℕ) (m : Machine) {c : Call} {left : List ℕ → Outcome} (room : List ℕ) → callOf r ≡ c → left room ≡ perform c m → Gives m r left
 gives r m room asked made = record { room = room; whole = made ∙ ap (λ (x : Call). perform x m) (sym asked) }

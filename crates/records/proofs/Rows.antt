@@ -9,7 +9,7 @@ use lib.Seq.{sets, take-all, drop-drop, take-append-le, drop-append-le}
 use Rattle.ground.proofs.Lists.{sets-append}
 use Rattle.rules.specs.declared.Answer.{Answer}
 use Rattle.rules.specs.Memory.{Machine, machine}
-use Rattle.rules.specs.Replies.{Outcome, replyNumber, replyValue}
+use Rattle.rules.specs.Replies.{Outcome, answered, replyNumber, replyValue}
 use Rattle.rules.specs.Station.{recordSize, kindOf, lineOf, recordLine, linesFrom}
 use Rattle.lines.specs.Lines.{Written, lineMost}
 use Rattle.records.specs.declared.running.Progress.{Progress}
@@ -18,12 +18,12 @@ use Rattle.records.specs.Records.{outcomeOf, Gives, Steps, machineAfter,
 -- ---- one record
 
 -- Its call and its line.
-pub stepped : {m : Machine} {r : List ℕ} {a : Answer} {send receive bytes notices before after : List ℕ} {at n : ℕ} {kind : ℕ}
-    → Gives (outcomeOf m r) a send receive bytes notices → kind ≡ kindOf r
+pub stepped : {m : Machine} {r : List ℕ} (a : Answer) {send receive bytes notices before after : List ℕ} {at n : ℕ} {kind : ℕ}
+    → Gives m r (answered a send receive bytes notices) → kind ≡ kindOf r
     → Written (lineOf kind (replyNumber (a .reply)) (replyValue (a .reply)) (a .interrupts)) at before after n × (n ≤ at + lineMost)
-    → Steps m r at before (record { saved = a .saved; next = n }) send receive bytes notices after
+    → Steps m r at before (record { saved = a .saved; next = n }) (machine (a .saved) send receive bytes notices) after
 unfolding recordLine
-stepped {m} {r} {a} g k w =
+stepped {m} {r} a g k w =
     let line : Outcome → List ℕ = λ o. lineOf (kindOf r) (o .reply) (o .value) (o .interrupts) in
     let same : lineOf (kindOf r) (replyNumber (a .reply)) (replyValue (a .reply)) (a .interrupts) ≡ line (outcomeOf m r) = ap line (g .whole) in
     record { state = ap (λ (o : Outcome). o .machine) (g .whole); line = rw (k, same) at (w .0); short = w .1 }
@@ -114,10 +114,10 @@ begun m input out = record { state = refl; stored = refl; place = omega arith }
 
 module _ {final : Machine} {total before : List ℕ} where
   -- One record less.
-  pub turn : {m : Machine} {l : List ℕ} {next : ℕ} {out : List ℕ} {t : Progress} {send receive bytes notices out₂ : List ℕ} → 0 < length l
-      → Steps m (take recordSize l) next out t send receive bytes notices out₂ → Left final total before m l next out
-      → Left final total before (machine (t .saved) send receive bytes notices) (drop recordSize l) (t .next) out₂
-  turn {m} {l} {next} {out} {t} {send} {receive} {bytes} {notices} {out₂} some s f =
+  pub turn : {m m₂ : Machine} {l : List ℕ} {next : ℕ} {out : List ℕ} {t : Progress} {out₂ : List ℕ} → 0 < length l
+      → Steps m (take recordSize l) next out t m₂ out₂ → Left final total before m l next out
+      → Left final total before m₂ (drop recordSize l) (t .next) out₂
+  turn {m} {m₂} {l} {next} {out} {t} {out₂} some s f =
       let o : Outcome = outcomeOf m (take recordSize l) in
       let line : List ℕ = recordLine (take recordSize l) o in
       let others : List ℕ = linesFrom (length (drop recordSize l)) (o .machine) (drop recordSize l) in
@@ -131,10 +131,10 @@ module _ {final : Machine} {total before : List ℕ} where
       rw (s .state) (record { state = sym (machine-first m l some) ∙ f .state; stored = stored; place = place })
 
   -- The record that begins at a place of the input.
-  pub onward : {m : Machine} {next : ℕ} {out : List ℕ} {t : Progress} {send receive bytes notices out₂ : List ℕ} (input : List ℕ) (at end : ℕ)
+  pub onward : {m m₂ : Machine} {next : ℕ} {out : List ℕ} {t : Progress} {out₂ : List ℕ} (input : List ℕ) (at end : ℕ)
       → at < length input → end ≡ at + min recordSize (length input - at)
-      → Steps m (take (end - at) (drop at input)) next out t send receive bytes notices out₂ → Left final total before m (drop at input) next out
-      → Left final total before (machine (t .saved) send receive bytes notices) (drop end input) (t .next) out₂
+      → Steps m (take (end - at) (drop at input)) next out t m₂ out₂ → Left final total before m (drop at input) next out
+      → Left final total before m₂ (drop end input) (t .next) out₂
   onward input at end some e s f =
       let l : List ℕ = drop at input in
       let long : length l ≡ length input - at = length-drop at input in

@@ -4,11 +4,10 @@ use mathlib.Core.Path.{_≡_}
 use mathlib.Core.List.{List, [], _∷_, _++_}
 use lib.ListN.{length, take, drop}
 use Rattle.ground.specs.Lists.{part}
-use Rattle.rules.specs.declared.Answer.{Answer}
 use Rattle.rules.specs.Memory.{Machine, machine}
 use Rattle.rules.specs.Saved.{resetSaved}
 use Rattle.rules.specs.Registers.{pcsr0Number}
-use Rattle.rules.specs.Replies.{Outcome, answered}
+use Rattle.rules.specs.Replies.{Outcome}
 use Rattle.rules.specs.Calls.{writes, perform}
 use Rattle.rules.specs.Station.{recordSize, recordPacket, callOf, recordLine, linesFrom}
 use Rattle.lines.specs.Lines.{Written, lineMost}
@@ -32,14 +31,14 @@ pub record PacketTo (r : List ℕ) (end : ℕ) : Type 0 where
   pub most : end ≤ recordSize
   pub packet : part 16 (end - 16) r ≡ recordPacket r
 
--- A call gave an outcome, whatever its room holds: the station looks at no room.
-pub record Gives (o : Outcome) (a : Answer) (send receive bytes notices : List ℕ) : Type 0 where
+-- A record's call left what it should, whatever its room holds: the station looks at no room.
+pub record Gives (m : Machine) (r : List ℕ) (leaves : List ℕ → Outcome) : Type 0 where
   pub room : List ℕ
-  pub whole : answered a send receive bytes notices room ≡ o
+  pub whole : leaves room ≡ outcomeOf m r
 
 -- A record's call was made and its line written.
-pub record Steps (m : Machine) (r : List ℕ) (at : ℕ) (before : List ℕ) (t : Progress) (send receive bytes notices after : List ℕ) : Type 0 where
-  pub state : machine (t .saved) send receive bytes notices ≡ outcomeOf m r .machine
+pub record Steps (m : Machine) (r : List ℕ) (at : ℕ) (before : List ℕ) (t : Progress) (left : Machine) (after : List ℕ) : Type 0 where
+  pub state : left ≡ outcomeOf m r .machine
   pub line : Written (recordLine r (outcomeOf m r)) at before after (t .next)
   pub short : t .next ≤ at + lineMost
 

@@ -3,9 +3,9 @@ use rules::Answer;
 use rules::Saved;
 ghost use mathlib.Core.Path.{_≡_};
 ghost use lib.ListN.{length};
-ghost use Rattle.rules.specs.Memory.{machine};
 ghost use Rattle.rules.specs.Station.{recordSize, kindOf};
-ghost use Rattle.records.specs.Records.{PacketTo, outcomeOf, Gives};
+ghost use Rattle.engine.specs.Lent.{before, leaves};
+ghost use Rattle.records.specs.Records.{PacketTo, Gives};
 
 // The kind, byte 0. "A torn last record is kind 0, length ignored."
 pub(crate) fn kind_of(record: &[u8]) -> u8
@@ -33,7 +33,7 @@ fn call_whole(
     record: &[u8],
 ) -> Answer
     requires { ⌜ length (now «record») ≡ recordSize ⌝ }
-    ensures { λ r. ⌜ Gives (outcomeOf (machine s (now (send .entry)) (now (receive .entry)) (now (bytes .entry)) (now (notices .entry))) (now («record» .entry))) r (now (send .exit)) (now (receive .exit)) (now (bytes .exit)) (now (notices .exit)) ⌝ }
+    ensures { λ r. ⌜ Gives (before s send receive bytes notices) (now («record» .entry)) (leaves r send receive bytes notices) ⌝ }
 {
     let first = words::get(record, 4);
     match record[0] {
@@ -72,7 +72,7 @@ pub(crate) fn call(
     notices: &mut [u32],
     record: &[u8],
 ) -> Answer
-    ensures { λ r. ⌜ Gives (outcomeOf (machine s (now (send .entry)) (now (receive .entry)) (now (bytes .entry)) (now (notices .entry))) (now («record» .entry))) r (now (send .exit)) (now (receive .exit)) (now (bytes .exit)) (now (notices .exit)) ⌝ }
+    ensures { λ r. ⌜ Gives (before s send receive bytes notices) (now («record» .entry)) (leaves r send receive bytes notices) ⌝ }
 {
     if record.len() == 192 {
         call_whole(s, send, receive, bytes, notices, record)

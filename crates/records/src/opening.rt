@@ -1,13 +1,13 @@
 // The machine that the station begins with.
 use rules::Queue;
 use rules::Saved;
-ghost use mathlib.Core.Path.{_≡_};
-ghost use Rattle.rules.specs.Memory.{machine};
+ghost use Rattle.engine.specs.Lent.{after};
 ghost use Rattle.records.specs.Records.{Opens};
 
 // "then reset by writing 0x80000000 to PCSR0": over the memories as they are lent.
 pub fn open(send: &mut [u32], receive: &mut [u32], bytes: &[u8], notices: &mut [u32]) -> Saved
-    ensures { λ r. ⌜ Opens (now (send .entry)) (now (receive .entry)) (now (bytes .entry)) (now (notices .entry)) (machine r (now (send .exit)) (now (receive .exit)) (now (bytes .entry)) (now (notices .exit))) ⌝ }
+    ensures { λ r. ⌜ Opens (now (send .entry)) (now (receive .entry)) (now (bytes .entry)) (now (notices .entry))
+        (after r send receive bytes notices) ⌝ }
 {
     let none = Queue {
         place: 0,

@@ -4,8 +4,8 @@ use rules::Saved;
 ghost use mathlib.Core.Path.{_≡_};
 ghost use Prim.Native.Nat.{_+_, _-_, _≤_, min};
 ghost use lib.ListN.{length};
-ghost use Rattle.rules.specs.Memory.{machine};
 ghost use Rattle.rules.specs.Station.{recordSize};
+ghost use Rattle.engine.specs.Lent.{before, after};
 ghost use Rattle.lines.specs.Lines.{lineMost};
 ghost use Rattle.records.specs.Records.{Steps, Roomy, Runs, Parted};
 
@@ -35,7 +35,8 @@ fn step(
     at: usize,
 ) -> Progress
     requires { ⌜ at + lineMost ≤ length (now out) ⌝ }
-    ensures { λ r. ⌜ Steps (machine s (now (send .entry)) (now (receive .entry)) (now (bytes .entry)) (now (notices .entry))) (now («record» .entry)) at (now (out .entry)) r (now (send .exit)) (now (receive .exit)) (now (bytes .exit)) (now (notices .exit)) (now (out .exit)) ⌝ }
+    ensures { λ r. ⌜ Steps (before s send receive bytes notices) (now («record» .entry)) at (now (out .entry)) r
+        (after (r .saved) send receive bytes notices) (now (out .exit)) ⌝ }
 {
     let a = calling::call(s, send, receive, bytes, notices, record);
     let reply = a.reply;
@@ -55,7 +56,8 @@ pub fn run(
     out: &mut [u8],
 ) -> Progress
     requires { ⌜ Roomy (now input) (now out) ⌝ }
-    ensures { λ r. ⌜ Runs (machine s (now (send .entry)) (now (receive .entry)) (now (bytes .entry)) (now (notices .entry))) (now (input .entry)) (now (out .entry)) r (now (send .exit)) (now (receive .exit)) (now (bytes .exit)) (now (notices .exit)) (now (out .exit)) ⌝ }
+    ensures { λ r. ⌜ Runs (before s send receive bytes notices) (now (input .entry)) (now (out .entry)) r
+        (now (send .exit)) (now (receive .exit)) (now (bytes .exit)) (now (notices .exit)) (now (out .exit)) ⌝ }
 {
     let mut saved = s;
     let mut next = 0;

@@ -19,4 +19,5 @@ step-spec =
     (λ c.
     let line = c .before .before in
     let kind = line .before in
-    stepped (kind .before .before .before .before .before .before .before .before .before .before .before .call .ensures) (kind .kind-of .ensures) (line .put-line .ensures)))
+    let called = kind .before .before .before .before .before .before .before .before .before .before .before in
+    stepped (called .call .result) (called .call .ensures) (kind .kind-of .ensures) (line .put-line .ensures)))
