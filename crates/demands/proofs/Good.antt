@@ -23,7 +23,7 @@ use Rattle.demands.proofs.Sight.{below-at, view}
 use Rattle.demands.proofs.Boards.{heads, places}
 use Rattle.demands.proofs.Descriptors.{Rules}
 use Rattle.demands.proofs.Sane.{Sane}
-use Rattle.demands.proofs.Numbers.{Registers, Numbers}
+use Rattle.demands.proofs.Numbers.{Registers, Fits, Numbers}
 
 -- How many answers to receipts have this number, as a register counts them.
 abbrev pub tally : ℕ → List ℕ → ℕ
@@ -51,7 +51,8 @@ registers-ok : (s : Saved) → Registers s → registersOk s ≡ true
 unfolding registersOk
 registers-ok s g =
     and-both (and-both (and-both (and-both (and-both (and-both
-    (g .0) (le-leb (s .inthi) 1 (g .1))) (le-leb (s .intlo) 1 (g .2))) (le-leb (s .slots) 64 (g .3))) (g .4)) (g .5)) (lt-ltb (s .lastsender) 4 (g .6))
+    (g .pcsr0) (le-leb (s .inthi) 1 (g .inthi))) (le-leb (s .intlo) 1 (g .intlo))) (le-leb (s .slots) 64 (g .slots)))
+    (g .sendpointer)) (g .receivepointer)) (lt-ltb (s .lastsender) 4 (g .lastsender))
 
 -- All six parts.
 pub good-sound : {xs : List ℕ} (m : Machine) → Good xs m → isSound m ≡ true
@@ -61,11 +62,11 @@ good-sound m g =
     let s : Saved = m .saved in
     let r : List ℕ = m .receive in
     let f = g .numbers in
-    let queue : (q : Queue) → (q .place < 256) × (q .length ≤ 256) → (ltb (q .place) 256 && leb (q .length) 256) ≡ true =
-    λ q h. and-both (lt-ltb (q .place) 256 (h .0)) (le-leb (q .length) 256 (h .1)) in
+    let queue : (q : Queue) → Fits q → (ltb (q .place) 256 && leb (q .length) 256) ≡ true =
+    λ q h. and-both (lt-ltb (q .place) 256 (h .place)) (le-leb (q .length) 256 (h .length)) in
     and-both (and-both (and-both (and-both (and-both
-    (registers-ok s (f .0))
-    (and-both (and-both (queue (s .nqr) (f .1)) (queue (s .aqr) (f .2))) (queue (s .nbqr) (f .3))))
+    (registers-ok s (f .registers))
+    (and-both (and-both (queue (s .nqr) (f .nqr)) (queue (s .aqr) (f .aqr))) (queue (s .nbqr) (f .nbqr))))
     (all-each (λ l. isBlockOrNone n (headOf r (list l))) lists (λ l h. tip-test n (headOf r (list l)) (rw (below-at (heads r) l h) at (g .sane .head l h)))))
     (all-each (λ l. isBlockOrNone n (placeOf r (list l))) lists (λ l h. tip-test n (placeOf r (list l)) (rw (below-at (places r) l h) at (g .sane .place l h)))))
     (all-each (λ k. isBlock n (getD r (entryWord nbqrFrom (s .nbqr) k) 0)) (s .nbqr .length)

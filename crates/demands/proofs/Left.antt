@@ -28,7 +28,7 @@ use Rattle.demands.specs.History.{answerOf}
 use Rattle.demands.proofs.Sums.{same, same-other, sum-append}
 use Rattle.demands.proofs.Sight.{Quiet, quiet-then}
 use Rattle.demands.proofs.Descriptors.{Rules, store-length, mark-length, direct-rules, word-rules, start-rules, sent-rules, mark-rules}
-use Rattle.demands.proofs.Numbers.{Numbers, step-numbers, shown-numbers, number-numbers, aqr-numbers, nbqr-numbers, push-length, TokenFits, token-fits, post-numbers, post-length}
+use Rattle.demands.proofs.Numbers.{Numbers, sender-set, counts-set, step-numbers, shown-numbers, number-numbers, aqr-numbers, nbqr-numbers, push-length, TokenFits, token-fits, post-numbers, post-length}
 use Rattle.demands.proofs.Written.{OfSendStore, OfWrite, of-write}
 use Rattle.demands.proofs.Judged.{fit}
 use Rattle.demands.proofs.Choices.{Listed, OfReceipt, of-receipt, receipt-listed, found-ready}
@@ -113,11 +113,11 @@ counted-numbers : (r : Receipt) (xs : List ℕ) (s : Saved) → Numbers (tally 0
     → let ys = xs ++ (replyNumber (receiptReply r) ∷ []) in Numbers (tally 0 ys) (tally 9 ys) (countedBy r s)
 unfolding countedBy
 counted-numbers (Receipt.Fails status) xs s f =
-    (f .0, f .1, f .2, f .3, omega (arith, f .4, sum-append (same 0) xs (9 ∷ [])), omega (arith, f .5, sum-append (same 9) xs (9 ∷ [])))
+    counts-set s f _ _ (omega (arith, f .taken, sum-append (same 0) xs (9 ∷ []))) (omega (arith, f .faulted, sum-append (same 9) xs (9 ∷ [])))
 counted-numbers (Receipt.Acks i) xs s f =
-    (f .0, f .1, f .2, f .3, omega (arith, f .4, sum-append (same 0) xs (0 ∷ [])), omega (arith, f .5, sum-append (same 9) xs (0 ∷ [])))
+    counts-set s f _ _ (omega (arith, f .taken, sum-append (same 0) xs (0 ∷ []))) (omega (arith, f .faulted, sum-append (same 9) xs (0 ∷ [])))
 counted-numbers (Receipt.Lands i) xs s f =
-    (f .0, f .1, f .2, f .3, omega (arith, f .4, sum-append (same 0) xs (0 ∷ [])), omega (arith, f .5, sum-append (same 9) xs (0 ∷ [])))
+    counts-set s f _ _ (omega (arith, f .taken, sum-append (same 0) xs (0 ∷ []))) (omega (arith, f .faulted, sum-append (same 9) xs (0 ∷ [])))
 
 -- The payload keeps the length of data memory.
 payload-length : (receive packet : List ℕ) (r : Receipt) (bytes : List ℕ) → length (payloadStored receive packet r bytes) ≡ length bytes
@@ -133,14 +133,10 @@ unfolding actReceive received receivedOnBoard hasRoomFor
 receive-left xs m packet (Receiving.No why) h g =
     let n : ℕ = refusalNumber why in
     let f = g .numbers in
-    saved-left m (m .saved) g (
-      f .0,
-      f .1,
-      f .2,
-      f .3,
-      omega (arith, f .4, sum-append (same 0) xs (n ∷ []), same-other 0 n (λ e. h .done (sym e))),
-      omega (arith, f .5, sum-append (same 9) xs (n ∷ []), same-other 9 n (λ e. h .fault (sym e))),
-    )
+    saved-left m (m .saved) g
+    (counts-set (m .saved) f _ _
+    (omega (arith, f .taken, sum-append (same 0) xs (n ∷ []), same-other 0 n (λ e. h .done (sym e))))
+    (omega (arith, f .faulted, sum-append (same 9) xs (n ∷ []), same-other 9 n (λ e. h .fault (sym e)))))
 receive-left xs m packet (Receiving.ComesTo r) h g =
     let p : Packet = packetOf packet in
     let n : ℕ = length (m .bytes) in
@@ -173,7 +169,6 @@ send-left m room (Sending.No why) h size g = saved-left m (m .saved) g (g .numbe
 send-left m room (Sending.Sends i) h size g =
     let d : Descriptor = descriptorAt (m .send) i in
     let f = found-ready (m .saved) (m .send) (m .receive) (h .1) in
-    let r = g .numbers in
     let b : Board = board (withLastSender (i .0) (m .saved)) (m .receive) (m .notices) 0 in
     record {
       send = store-length (m .send) i (afterPacket d);
@@ -181,7 +176,7 @@ send-left m room (Sending.Sends i) h size g =
       bytes = refl;
       numbers =
           post-numbers (sendPosting d) b (token-fits (m .saved) (m .receive) (sendPosting d) (and-right (isActive d) _ (f .0)))
-          ((r .0 .0, r .0 .1, r .0 .2, r .0 .3, r .0 .4, r .0 .5, f .1), r .1, r .2, r .3, r .4, r .5);
+          (sender-set (m .saved) (g .numbers) (i .0) (f .1));
       rules = sent-rules (m .send) i (length (m .bytes)) size (f .1) (h .0 .goes (i .0) (f .1) (and-left (isActive d) _ (f .0))) (g .rules);
     }
 send-left m room (Sending.Waits i) h size g =

@@ -29,6 +29,7 @@ use Rattle.demands.proofs.Sight.{below-at, view}
 use Rattle.demands.proofs.Steps.{call-step}
 use Rattle.demands.proofs.Answers.{done}
 use Rattle.demands.proofs.Descriptors.{Rules, idle}
+use Rattle.demands.proofs.Numbers.{reset-numbers}
 use Rattle.demands.proofs.Sane.{Sane, act-sane}
 use Rattle.demands.proofs.Good.{Good}
 use Rattle.demands.proofs.Left.{call-left}
@@ -79,7 +80,7 @@ good-reset v m h ok =
     (λ i. not (eqb (off i) 1) && (eqb (field-field 20 10 1 0 v i) 0 && leb (field-field 0 16 15 0 v i) 4095)) ∙ ok in
     record {
       sized = reset-sized v m h;
-      numbers = ((control, omega arith, omega arith, omega arith, refl, refl, omega arith), (omega arith, omega arith), (omega arith, omega arith), (omega arith, omega arith), refl, refl);
+      numbers = reset-numbers w control;
       sane = reset-sane v m;
       rules = cleared (m .send) (length (m .bytes));
     }

@@ -21,7 +21,7 @@ use Rattle.rules.specs.declared.queues.Removal.{Removal}
 use Rattle.rules.specs.declared.Reply.{Reply}
 use Rattle.rules.specs.declared.Taking.{Taking}
 use Rattle.rules.specs.declared.Verdict.{Verdict}
-use Rattle.rules.specs.Memory.{block, blockFirst, headWord, placeWord, nbqrFrom}
+use Rattle.rules.specs.Memory.{block, blockFirst, headWord, tokenWord, placeWord, nbqrFrom}
 use Rattle.rules.specs.Saved.{withNbqr}
 use Rattle.rules.specs.Queues.{oldest, removed}
 use Rattle.rules.specs.Board.{Board}
@@ -82,10 +82,10 @@ filled l n s receive notices notices₂ head more o e out words last =
 
 -- ---- the posting
 
-module _ (l : ListIndex) (n : Notice) {s : Saved} {receive notices receive₂ notices₂ : List ℕ} {head : ℕ} {h : Step} (e : head ≡ headWord l)
+module _ (l : ListIndex) (n : Notice) {s : Saved} {receive notices receive₂ notices₂ : List ℕ} {token : ℕ} {h : Step} (e : token ≡ tokenWord l)
     (fill : Posts (fillHead l n) 4 s receive notices h receive₂ notices₂) where
   -- Filling the head leaves NQR as it was.
-  pub enqueue-asks : Postable s receive (length notices) l → Enqueues (getD receive (head + 1) 0) (h .saved) receive₂
+  pub enqueue-asks : Postable s receive (length notices) l → Enqueues (getD receive token 0) (h .saved) receive₂
   unfolding fillHead
   enqueue-asks p =
       let nqr : h .saved .nqr ≡ s .nqr = ap (λ (b : Board). b .saved .nqr) (fill .whole 0) in
@@ -93,7 +93,7 @@ module _ (l : ListIndex) (n : Notice) {s : Saved} {receive notices receive₂ no
       record { size = size ∙ p .size; place = rw nqr (p .nqr); room = rw (nqr, e) (p .room) }
 
   -- The head, then the token.
-  pub posted : {receive₃ : List ℕ} {t : Step} → Does (enqueueToken (getD receive (head + 1) 0)) 2 (h .saved) receive₂ t receive₃
+  pub posted : {receive₃ : List ℕ} {t : Step} → Does (enqueueToken (getD receive token 0)) 2 (h .saved) receive₂ t receive₃
       → Posts (post l n) 6 s receive notices (record { saved = t .saved; interrupts = h .interrupts + t .interrupts }) receive₃ notices₂
   unfolding post
   posted {t = t} d =

@@ -10,7 +10,8 @@ use rules::Notice;
 use rules::Posting;
 use rules::Queue;
 use rules::Saved;
-use sound::head_word;
+use tables::head_word;
+use tables::token_word;
 ghost use mathlib.Core.Path.{_≡_};
 ghost use Prim.Native.Nat.{_+_, _≤_, _<_};
 ghost use lib.ListN.{length};
@@ -23,12 +24,11 @@ fn can_post(s: Saved, receive: &[u32], l: ListIndex) -> bool
     requires { ⌜ (l .0 < 64) × (length (now receive) ≡ 2048) ⌝ }
     ensures { λ r. ⌜ r ≡ canPost s (now (receive .entry)) l ⌝ }
 {
-    let head = head_word(l);
     let nqr = s.nqr;
     let nbqr = s.nbqr;
-    !(receive[head] == 0)
+    !(receive[head_word(l)] == 0)
         & !(nbqr.length == 0)
-        & (!(receive[head + 1] % 2 == 1) | (nqr.length < 256))
+        & (!(receive[token_word(l)] % 2 == 1) | (nqr.length < 256))
 }
 
 // A queue after a push, its interrupt bit, and the interrupt.
@@ -148,7 +148,7 @@ fn post(l: ListIndex, n: Notice, s: Saved, receive: &mut [u32], notices: &mut [u
     requires { ⌜ Postable s (now receive) (length (now notices)) l ⌝ }
     ensures { λ r. ⌜ Posts (rule.post l n) 6 s (now (receive .entry)) (now (notices .entry)) r (now (receive .exit)) (now (notices .exit)) ⌝ }
 {
-    let token = receive[head_word(l) + 1];
+    let token = receive[token_word(l)];
     let filled = fill_head(l, n, s, receive, notices);
     let saved = filled.saved;
     let told = enqueue_token(token, saved, receive);

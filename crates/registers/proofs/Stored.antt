@@ -18,7 +18,7 @@ use Rattle.rules.specs.declared.Saved.{Saved}
 use Rattle.rules.specs.declared.SendStore.{SendStore}
 use Rattle.rules.specs.declared.Slot.{Slot}
 use Rattle.rules.specs.declared.SlotIndex.{SlotIndex}
-use Rattle.rules.specs.Memory.{slotFirst, slotWord, headWord, placeWord}
+use Rattle.rules.specs.Memory.{slotFirst, slotWord, headWord, tokenWord, placeWord}
 use Rattle.rules.specs.Slots.{slotAt, slotWords, storeSlot}
 use Rattle.rules.specs.Sending.{descriptorAt, storeDescriptor, started}
 use Rattle.rules.specs.Writes.{numberSet, sendStored, receiveStored}
@@ -82,11 +82,12 @@ module _ (receive receive₂ : List ℕ) (i : SlotIndex) (v : ℕ) {x y : Slot} 
 
 -- ---- lists
 
-module _ (receive : List ℕ) (l : ListIndex) (v : ℕ) {head : ℕ} (h : head ≡ headWord l) where
-  pub token-stored : set receive (head + 1) v ≡ receiveStored (ReceiveStore.ListToken l) v receive
-  unfolding receiveStored
-  token-stored = rw h
+pub token-stored : (receive : List ℕ) (l : ListIndex) (v : ℕ) {token : ℕ} → token ≡ tokenWord l
+    → set receive token v ≡ receiveStored (ReceiveStore.ListToken l) v receive
+unfolding receiveStored
+token-stored receive l v h = rw h
 
+module _ (receive : List ℕ) (l : ListIndex) (v : ℕ) {head : ℕ} (h : head ≡ headWord l) where
   -- The place is stored after the head.
   pub place-asks : (b place : ℕ) → place ≡ placeWord l → l .0 < 64 → length receive ≡ 2048 → place < length (set receive head b)
   place-asks b place p low size = simp length-set (omega arith)

@@ -10,12 +10,13 @@ use rules::Saved;
 use rules::SendStore;
 use rules::Slot;
 use rules::SlotIndex;
-use sound::head_word;
-use sound::place_word;
 use tables::descriptor_at;
+use tables::head_word;
+use tables::place_word;
 use tables::slot_at;
 use tables::store_descriptor;
 use tables::store_slot;
+use tables::token_word;
 ghost use mathlib.Core.Path.{_≡_};
 ghost use Prim.Native.Nat.{_<_};
 ghost use lib.ListN.{length};
@@ -183,7 +184,7 @@ fn store_token(l: ListIndex, v: u32, receive: &mut [u32])
     requires { ⌜ (l .0 < 64) × (length (now receive) ≡ 2048) ⌝ }
     ensures { λ _. ⌜ now (receive .exit) ≡ receiveStored (ReceiveStore.ListToken l) v (now (receive .entry)) ⌝ }
 {
-    receive[head_word(l) + 1] = v;
+    receive[token_word(l)] = v;
 }
 
 // A word of Receive RAM.

@@ -3,11 +3,6 @@ mod descriptors;
 mod lists;
 mod registers;
 
-pub use descriptors::go_rule;
-pub use descriptors::is_active;
-pub use lists::head_word;
-pub use lists::is_block;
-pub use lists::place_word;
 pub use registers::pcsr0_ok;
 pub use registers::pointer_ok;
 use rules::Refusal;

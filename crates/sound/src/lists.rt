@@ -2,45 +2,19 @@
 use rules::ListIndex;
 use rules::NBQR_FROM;
 use rules::Queue;
+use tables::head_word;
+use tables::is_block;
+use tables::is_block_or_none;
+use tables::place_word;
 ghost use mathlib.Core.Path.{_≡_};
 ghost use mathlib.Core.Bool.{_&&_};
 ghost use Prim.Native.Nat.{_<_};
 ghost use lib.ListN.{length, getD};
-ghost use Rattle.rules.specs.Memory.{headWord, placeWord, isBlock, isBlockOrNone, nbqrFrom};
+ghost use Rattle.rules.specs.Memory.{isBlock, isBlockOrNone, nbqrFrom};
 ghost use Rattle.rules.specs.Notices.{headOf, placeOf};
 ghost use Rattle.rules.specs.Queues.{entryWord};
 ghost use Rattle.rules.specs.Sound.{headsOk, placesOk, waitingOk};
 ghost use Rattle.sound.specs.Facts.{Ring};
-
-// A block's address, in a notice memory of n words.
-pub fn is_block(n: usize, a: u32) -> bool
-    ensures { λ r. ⌜ r ≡ isBlock n a ⌝ }
-{
-    (a % 32 == 0) & (32 <= a) & ((a / 4 + 8) as usize <= n)
-}
-
-// 0, or a block's address.
-fn is_block_or_none(n: usize, a: u32) -> bool
-    ensures { λ r. ⌜ r ≡ isBlockOrNone n a ⌝ }
-{
-    (a == 0) | is_block(n, a)
-}
-
-// Where a list's head stands; its token is the next word.
-pub fn head_word(l: ListIndex) -> usize
-    requires { ⌜ l .0 < 64 ⌝ }
-    ensures { λ r. ⌜ r ≡ headWord l ⌝ }
-{
-    1024 + 2 * l.0 as usize
-}
-
-// Where a list's reader's place stands.
-pub fn place_word(l: ListIndex) -> usize
-    requires { ⌜ l .0 < 64 ⌝ }
-    ensures { λ r. ⌜ r ≡ placeWord l ⌝ }
-{
-    1920 + l.0 as usize
-}
 
 // A list's head is 0 or a block.
 fn head_ok(receive: &[u32], l: ListIndex, n: usize) -> bool

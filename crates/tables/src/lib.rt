@@ -1,9 +1,18 @@
-// The tables in the RAMs: descriptors in Send RAM and slots in Receive RAM, each read and stored whole.
+// The tables in the RAMs: descriptors and slots, each read and stored whole; when a descriptor may go; where a list's words stand.
 mod descriptors;
+mod going;
+mod lists;
 mod slots;
 
 pub use descriptors::descriptor_at;
 pub use descriptors::store_descriptor;
+pub use going::go_rule;
+pub use going::is_active;
+pub use lists::head_word;
+pub use lists::is_block;
+pub use lists::is_block_or_none;
+pub use lists::place_word;
+pub use lists::token_word;
 use rules::Metadata;
 pub use slots::slot_at;
 pub use slots::store_slot;

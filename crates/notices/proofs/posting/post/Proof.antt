@@ -11,7 +11,6 @@ post-spec =
     (λ c κs. search needs)
     (λ c. search needs)
     (λ c. search needs)
-    (λ c. search needs)
     (λ c κs. search needs)
     (λ c κs. search enqueue-asks)
     (λ c. search needs)
@@ -20,4 +19,4 @@ post-spec =
     (λ c.
     let told = c .before .before .before .before .before in
     let fill = told .before .before .before .before .before .before .before in
-    posted _ _ (fill .before .before .before .before .head-word .ensures) (fill .fill-head .ensures) (told .enqueue-token .ensures)))
+    posted _ _ (fill .before .before .before .before .token-word .ensures) (fill .fill-head .ensures) (told .enqueue-token .ensures)))

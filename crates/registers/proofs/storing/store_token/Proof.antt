@@ -12,5 +12,4 @@ store-token-spec =
     (λ c. search needs)
     (λ c. search needs)
     (λ c. search needs)
-    (λ c. search needs)
     (λ c. search token-stored))

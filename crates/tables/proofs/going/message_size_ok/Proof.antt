@@ -1,8 +1,8 @@
--- `sound::descriptors::message_size_ok` meets its contract. Assumes nothing.
+-- `tables::going::message_size_ok` meets its contract. Assumes nothing.
 use borrow.Author.Needs.{needs}
 use Rattle.rules.specs.Sending.{messageSizeOk}
-use Rattle.sound.proofs.descriptors.message_size_ok.Statement.{statement}
-use Rattle.sound.proofs.descriptors.message_size_ok.Tie as tie
+use Rattle.tables.proofs.going.message_size_ok.Statement.{statement}
+use Rattle.tables.proofs.going.message_size_ok.Tie as tie
 
 pub message-size-ok-spec : {M : Type 1} → statement M
 unfolding messageSizeOk

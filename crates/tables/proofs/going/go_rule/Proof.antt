@@ -1,8 +1,8 @@
--- `sound::descriptors::go_rule` meets its contract. Assumes nothing.
+-- `tables::going::go_rule` meets its contract. Assumes nothing.
 use borrow.Author.Needs.{needs}
 use Rattle.rules.specs.Sending.{goRule}
-use Rattle.sound.proofs.descriptors.go_rule.Statement.{statement}
-use Rattle.sound.proofs.descriptors.go_rule.Tie as tie
+use Rattle.tables.proofs.going.go_rule.Statement.{statement}
+use Rattle.tables.proofs.going.go_rule.Tie as tie
 
 pub go-rule-spec : {M : Type 1} → statement M
 unfolding goRule
