@@ -3,6 +3,8 @@ use Prim.Native.Nat.{ℕ, _+_, _-_, _*_, _/_, _%_, _<_, _≤_}
 use mathlib.Core.Path.{_≡_, refl, sym, ap, _∙_}
 use mathlib.Core.List.{List}
 use native.Mathlib.Omega.{arith}
+use mir.Syntax.{w64}
+use mir.Val.{Fits}
 use borrow.Author.Tests.{eq-eqb, ne-eqb}
 use lib.Dec.{eqb}
 use lib.ListN.{length, take, drop}
@@ -13,8 +15,8 @@ use Rattle.ground.proofs.Lists.{part-sets, part-add, length-part}
 use Rattle.rules.specs.Memory.{Machine}
 use Rattle.rules.specs.Station.{recordSize, linesFrom}
 use Rattle.records.specs.declared.running.Progress.{Progress}
-use Rattle.records.specs.Records.{machineAfter, Runs}
-use Rattle.station.specs.Turns.{answeredTo, answeredOf, waitingOf, waitingIn, handIn, Answers}
+use Rattle.records.specs.Records.{machineAfter, Roomy, Runs}
+use Rattle.station.specs.Turns.{answeredTo, answeredOf, waitingOf, waitingIn, handIn, Begins, Filled, Answers}
 
 -- ---- which are answered
 
@@ -43,18 +45,17 @@ stored i n v l e h = ap (λ (k : ℕ). part i k (sets l i v)) (sym e) ∙ part-s
 
 -- A part that came there by way of another room.
 pub to-wait : {room after : List ℕ} (from to : ℕ) (input rest : List ℕ)
-    → (from ≤ to) × (to ≤ length input) × (to < from + recordSize) × (recordSize ≤ length input) × (recordSize ≤ length rest)
-    → room ≡ sets rest 0 (part from (to - from) input) → after ≡ sets input (recordSize - (to - from)) (take (to - from) room)
+    → Begins input rest from to → room ≡ sets rest 0 (part from (to - from) input) → after ≡ sets input (recordSize - (to - from)) (take (to - from) room)
     → waitingIn after (to - from) ≡ part from (to - from) input
 to-wait from to input rest h there back =
     let n : ℕ = to - from in
     let v : List ℕ = part from n input in
-    let e : length v ≡ n = length-part from n input (omega (arith, h .0, h .1)) in
-    let held : take n (sets rest 0 v) ≡ v = stored 0 n v rest e (omega (arith, h .2, h .4)) in
+    let e : length v ≡ n = length-part from n input (omega (arith, h .order, h .inside)) in
+    let held : take n (sets rest 0 v) ≡ v = stored 0 n v rest e (omega (arith, h .less, h .room)) in
     ap (λ (x : List ℕ). waitingIn x n) back
     ∙ ap (λ (x : List ℕ). waitingIn (sets input (recordSize - n) (take n x)) n) there
     ∙ ap (λ (x : List ℕ). waitingIn (sets input (recordSize - n) x) n) held
-    ∙ stored (recordSize - n) n v input e (omega (arith, h .2, h .3))
+    ∙ stored (recordSize - n) n v input e (omega (arith, h .less, h .first))
 
 -- ---- the records answered, the rest kept
 
@@ -69,14 +70,44 @@ part-rest a k n l h f =
     ∙ ap (drop k) (part-add a k (n - k) l)
     ∙ drop-at (part a k l) (part (a + k) (n - k) l) k (length-part a k l (omega arith))
 
+-- Where the records end that are answered, and what is left from there on.
+module _ {input out rest : List ℕ} {kept came to : ℕ} (f : Filled input out rest kept came) (e : to ≡ answeredTo came (kept + came)) where
+  pub end-fits : Fits w64 (recordSize - kept + to)
+  end-fits = record { fits = omega (arith, f .rooms .0, f .less, f .fits, nearly-all came (kept + came) e .0) }
+
+  pub end-inside : recordSize - kept + to ≤ length input
+  end-inside = omega (arith, f .less, f .fits, nearly-all came (kept + came) e .0)
+
+  pub lines-fit : Roomy (part (recordSize - kept) (recordSize - kept + to - (recordSize - kept)) input) out
+  lines-fit =
+      let long : length (part (recordSize - kept) (recordSize - kept + to - (recordSize - kept)) input) ≡ recordSize - kept + to - (recordSize - kept) =
+      length-part (recordSize - kept) (recordSize - kept + to - (recordSize - kept)) input (omega (arith, f .less, end-inside)) in
+      omega (arith, f .rooms .0, f .rooms .1, f .less, f .fits, nearly-all came (kept + came) e .0, long)
+
+  pub rest-begins : Begins input rest (recordSize - kept + to) (recordSize + came)
+  rest-begins =
+      let near = nearly-all came (kept + came) e in
+      record {
+        order = omega (arith, f .less, near .0);
+        inside = f .fits;
+        less = omega (arith, f .less, near .1);
+        first = omega (arith, f .fits);
+        room = omega (arith, f .rooms .2);
+      }
+
+pub came-fits : {input out rest : List ℕ} {kept came : ℕ} → Filled input out rest kept came → Fits w64 (recordSize + came)
+came-fits f = record { fits = omega (arith, f .rooms .0, f .fits) }
+
 -- The records up to their end were run, and the bytes from there on kept.
 pub answers : {m : Machine} {before out after : List ℕ} {t : Progress} {send receive bytes notices : List ℕ}
-    → (input : List ℕ) (kept came to left : ℕ)
-    → kept < recordSize → recordSize + came ≤ length input → to ≡ answeredTo came (kept + came)
+    → (input rest : List ℕ) (kept came to left : ℕ) → Filled input before rest kept came → to ≡ answeredTo came (kept + came)
     → Runs m (part (recordSize - kept) (recordSize - kept + to - (recordSize - kept)) input) before t send receive bytes notices out
-    → let n = recordSize + came - (recordSize - kept + to) in (left ≡ n) × (waitingIn after n ≡ part (recordSize - kept + to) n input)
+    → left ≡ recordSize + came - (recordSize - kept + to)
+    → waitingIn after (recordSize + came - (recordSize - kept + to)) ≡ part (recordSize - kept + to) (recordSize + came - (recordSize - kept + to)) input
     → Answers m came (handIn input kept came) (record { saved = t .saved; next = t .next; kept = left }) send receive bytes notices after out
-answers {m} {before} {out} {after} {t} {send} {receive} {bytes} {notices} input kept came to left less fits e ran k =
+answers {m} {before} {out} {after} {t} {send} {receive} {bytes} {notices} input rest kept came to left f e ran many waits =
+    let less : kept < recordSize = f .less in
+    let fits : recordSize + came ≤ length input = f .fits in
     let start : ℕ = recordSize - kept in
     let cut : start + to - start ≡ to = omega arith in
     let r : Runs m (part start to input) before t send receive bytes notices out = rw cut at ran in
@@ -85,11 +116,11 @@ answers {m} {before} {out} {after} {t} {send} {receive} {bytes} {notices} input 
     let size : length hand ≡ kept + came = length-part start (kept + came) input (omega arith) in
     let whole : answeredTo came (length hand) ≡ to = ap (answeredTo came) size ∙ sym e in
     let first : answeredOf came hand ≡ part start to input = ap (λ (n : ℕ). take n hand) whole ∙ part-start start to (kept + came) input (near .0) in
-    let rest : left ≡ kept + came - to = omega (arith, k .0, near .0) in
+    let over : left ≡ kept + came - to = omega (arith, many, near .0) in
     let others : waitingOf came hand ≡ part (start + to) left input =
     ap (λ (n : ℕ). drop n hand) whole
     ∙ part-rest start to (kept + came) input (near .0) (omega arith)
-    ∙ ap (λ (n : ℕ). part (start + to) n input) (sym rest) in
+    ∙ ap (λ (n : ℕ). part (start + to) n input) (sym over) in
     let lines : List ℕ = linesFrom (length (part start to input)) m (part start to input) in
     let long : length out ≡ length before = ap length (r .lines .buffer) ∙ length-sets before 0 lines in
     let written : take (t .next) out ≡ lines =
@@ -98,6 +129,6 @@ answers {m} {before} {out} {after} {t} {send} {receive} {bytes} {notices} input 
       state = r .state ∙ ap (λ (l : List ℕ). machineAfter (length l) m l) (sym first);
       lines = written ∙ ap (λ (l : List ℕ). linesFrom (length l) m l) (sym first);
       inside = r .inside;
-      waits = ap (waitingIn after) (k .0) ∙ k .1 ∙ ap (λ (n : ℕ). part (start + to) n input) (sym (k .0)) ∙ sym others;
-      less = omega (arith, rest, near .1);
+      waits = ap (waitingIn after) many ∙ waits ∙ ap (λ (n : ℕ). part (start + to) n input) (sym many) ∙ sym others;
+      less = omega (arith, over, near .1);
     }

@@ -3,6 +3,8 @@ use Prim.Native.Nat.{ℕ, _+_, _-_, _%_, _<_, _≤_}
 use mathlib.Core.Path.{_≡_, refl, sym, ap, _∙_}
 use mathlib.Core.List.{List, [], _++_, append-assoc, append-nil}
 use native.Mathlib.Omega.{arith}
+use mir.Syntax.{w64}
+use mir.Val.{Fits}
 use lib.ListN.{length, length-append, length-drop, take, drop, take-append-drop, drop-of-length-le}
 use lib.Seq.{length-take-le, take-length}
 use Rattle.ground.specs.Lists.{part}
@@ -13,11 +15,11 @@ use Rattle.rules.specs.Saved.{resetSaved}
 use Rattle.rules.specs.Registers.{pcsr0Number}
 use Rattle.rules.specs.Calls.{writes, perform}
 use Rattle.rules.specs.Station.{recordSize, zeroMachine, firstMachine, station}
-use Rattle.boundary.specs.Boundary.{savedOf, wordsOf}
+use Rattle.boundary.specs.Boundary.{savedSize, savedOf, wordsOf}
 use Rattle.records.specs.Records.{Opens}
 use Rattle.records.proofs.Rows.{in-parts}
 use Rattle.station.specs.declared.answering.Answered.{Answered}
-use Rattle.station.specs.Turns.{answeredTo, answeredOf, linesOf, waitingIn, cameIn, handIn, Answers, Held, held, Zeros, opened, Begun, goneOn, linesNow, Reads, none, _▸_, read, after, written, Going, SoFar, Turned, InTurns}
+use Rattle.station.specs.Turns.{answeredTo, answeredOf, linesOf, waitingIn, cameIn, handIn, Answers, Held, held, Zeros, opened, Begun, goneOn, linesNow, Reads, none, _▸_, read, after, written, Going, SoFar, Turnable, Turned, InTurns}
 use Rattle.station.proofs.Hand.{at-the-end, before-the-end, part-rest}
 
 -- ---- the lines of a turn
@@ -80,24 +82,6 @@ in-turns =
           ∙ ap station (append-nil (read r));
     }
 
--- ---- a turn
-
--- What it made of what was left before: so much for all turns.
-turned : {before left : Held} {came out : List ℕ} {next : ℕ} → left ≡ goneOn before came → take next out ≡ linesNow before came → next ≤ length out
-    → Turned before came next left out
-turned {before} {left} {came} {out} {next} state lines inside =
-    let now : (r : Reads) → before ≡ after r → written r ++ take next out ≡ written (r ▸ came) =
-    λ r e. ap (λ (l : List ℕ). written r ++ l) (lines ∙ ap (λ (h : Held). linesNow h came) e) in
-    record {
-      state = state;
-      lines = lines;
-      inside = inside;
-      so-far = λ r e. (state ∙ ap (λ (h : Held). goneOn h came) e, now r e);
-      whole = λ r g e empty.
-          let nothing : came ≡ [] = drop-of-length-le came {i = 0} (omega arith) in
-          now r e ∙ ap (λ (l : List ℕ). written (r ▸ l)) nothing ∙ in-turns .whole r g;
-    }
-
 -- ---- from turn to turn
 
 -- Before the first turn nothing was read.
@@ -120,18 +104,41 @@ pub after-read : {h : Held} {waits : List ℕ} {count : ℕ} → waits ≡ h .wa
 after-read {h} same f =
     record { reads = f .reads; going = f .going; many = f .many; left = (λ i. record { machine = h .machine; waits = same i }) ∙ f .left }
 
--- Where some bytes came, the next turn is given what all turns left.
-pub goes-on : {before left : Held} {out : List ℕ} {next count : ℕ} (input : List ℕ) (n : ℕ) → recordSize + n ≤ length input
-    → Turned before (cameIn input n) next left out → SoFar before count → 0 < n → SoFar left (count + n)
-goes-on {count = count} input n fits t f some =
-    let came : List ℕ = cameIn input n in
-    let long : length came ≡ n = length-part recordSize n input fits in
+-- ---- a turn
+
+-- What it made of what was left before: so much for all turns.
+turned : {before left : Held} {came out : List ℕ} {next count : ℕ} → left ≡ goneOn before came → take next out ≡ linesNow before came → next ≤ length out
+    → SoFar before count → Turned before count came next left (count + length came) out
+turned {before} {left} {came} {out} {next} state lines inside f =
+    let now : (r : Reads) → before ≡ after r → written r ++ take next out ≡ written (r ▸ came) =
+    λ r e. ap (λ (l : List ℕ). written r ++ l) (lines ∙ ap (λ (h : Held). linesNow h came) e) in
+    let on : (r : Reads) → before ≡ after r → left ≡ after (r ▸ came) = λ r e. state ∙ ap (λ (h : Held). goneOn h came) e in
     record {
-      reads = f .reads ▸ came;
-      going = (f .going, omega (arith, long));
-      many = length-append (read (f .reads)) came ∙ (λ i. f .many i + long i);
-      left = t .so-far (f .reads) (f .left) .0;
+      state = state;
+      lines = lines;
+      inside = inside;
+      so-far = λ r e. (on r e, now r e);
+      whole = λ r g e empty.
+          let nothing : came ≡ [] = drop-of-length-le came {i = 0} (omega arith) in
+          now r e ∙ ap (λ (l : List ℕ). written (r ▸ l)) nothing ∙ in-turns .whole r g;
+      counted = refl;
+      goes-on = λ some.
+          record {
+            reads = f .reads ▸ came;
+            going = (f .going, some);
+            many = length-append (read (f .reads)) came ∙ ap (λ (k : ℕ). k + length came) (f .many);
+            left = on (f .reads) (f .left);
+          };
     }
+
+-- What it asks while it goes: the words of the saved state, and a count below 2^64.
+module _ {saved send receive bytes notices input out rest : List ℕ} {kept count n : ℕ}
+    (given : Turnable saved send receive bytes notices input out rest kept count n) where
+  pub words-kept : length saved ≡ savedSize
+  words-kept = given .words
+
+  pub counts : Fits w64 (count + n)
+  counts = record { fits = omega (arith, given .filled .rooms .0, given .filled .fits, given .counts) }
 
 -- What came stands behind what waited.
 behind : (input : List ℕ) (kept n : ℕ) → kept < recordSize → handIn input kept n ≡ waitingIn input kept ++ cameIn input n
@@ -139,32 +146,35 @@ behind input kept n h =
     let at : recordSize - kept + kept ≡ recordSize = omega arith in
     part-add (recordSize - kept) kept n input ∙ ap (λ (k : ℕ). waitingIn input kept ++ part k n input) at
 
--- By its steps: the state loaded, the records answered, the state stored.
-pub in-memories : {send receive bytes notices saved₂ send₂ receive₂ bytes₂ notices₂ input₂ out : List ℕ} {s : Saved} {a : Answered}
-    → (saved input : List ℕ) (kept n : ℕ) → kept < recordSize → recordSize + n ≤ length input → s ≡ savedOf saved
-    → Answers (machine s send receive bytes notices) n (handIn input kept n) a send₂ receive₂ bytes₂ notices₂ input₂ out
+-- By its steps: the state loaded, the records answered, the state stored, the bytes counted.
+pub in-memories : {send receive bytes notices saved₂ send₂ receive₂ bytes₂ notices₂ input₂ out out₂ rest : List ℕ} {s : Saved} {a : Answered}
+    → (saved input : List ℕ) (kept count n : ℕ) → Turnable saved send receive bytes notices input out rest kept count n → s ≡ savedOf saved
+    → Answers (machine s send receive bytes notices) n (handIn input kept n) a send₂ receive₂ bytes₂ notices₂ input₂ out₂
     → saved₂ ≡ wordsOf (a .saved)
-    → Turned (held saved send receive bytes notices input kept) (cameIn input n) (a .next) (held saved₂ send₂ receive₂ bytes₂ notices₂ input₂ (a .kept)) out
+    → Turned (held saved send receive bytes notices input kept) count (cameIn input n) (a .next)
+    (held saved₂ send₂ receive₂ bytes₂ notices₂ input₂ (a .kept)) (count + n) out₂
 unfolding goneOn linesNow savedOf wordsOf
-in-memories {send} {receive} {bytes} {notices} {saved₂} {send₂} {receive₂} {bytes₂} {notices₂} {input₂} {out} {s} {a} saved input kept n less fits loaded answers stored =
-    let long : length (cameIn input n) ≡ n = length-part recordSize n input fits in
-    let r : Answers (machine (savedOf saved) send receive bytes notices) (length (cameIn input n)) (waitingIn input kept ++ cameIn input n) a send₂ receive₂ bytes₂ notices₂ input₂ out =
-    rw (long, ← loaded, ← behind input kept n less) answers in
+in-memories {send} {receive} {bytes} {notices} {saved₂} {send₂} {receive₂} {bytes₂} {notices₂} {input₂} {out₂ = out₂} {s = s} {a = a} saved input kept count n given loaded answers stored =
+    let long : length (cameIn input n) ≡ n = length-part recordSize n input (given .filled .fits) in
+    let r : Answers (machine (savedOf saved) send receive bytes notices) (length (cameIn input n)) (waitingIn input kept ++ cameIn input n) a send₂ receive₂ bytes₂ notices₂ input₂ out₂ =
+    rw (long, ← loaded, ← behind input kept n (given .filled .less)) answers in
     let kept-state : savedOf saved₂ ≡ a .saved = ap savedOf stored in
-    turned
+    let t = turned {came = cameIn input n} {count = count}
     (λ i. record { machine = (ap (λ (x : Saved). machine x send₂ receive₂ bytes₂ notices₂) kept-state ∙ r .state) i; waits = r .waits i })
     (r .lines)
     (r .inside)
+    (given .so-far) in
+    rw long at t
 
 -- ---- the beginning
 
 -- The opening reset over memories of zeros, stored; no byte waits.
-pub begun : {saved send receive bytes notices send₂ receive₂ notices₂ : List ℕ} {kept count : ℕ} {s : Saved} → Zeros send receive bytes notices
+pub begun : {words saved send receive bytes notices send₂ receive₂ notices₂ : List ℕ} {kept count : ℕ} {s : Saved} → Zeros words send receive bytes notices
     → Opens send receive bytes notices (machine s send₂ receive₂ bytes notices₂) → saved ≡ wordsOf s → kept ≡ 0 → count ≡ 0
     → Begun saved send₂ receive₂ bytes notices₂ kept count
 unfolding firstMachine zeroMachine savedOf wordsOf
-begun {saved} {send} {receive} {bytes} {notices} {send₂} {receive₂} {notices₂} {kept} {count} {s} z o stored zero unread =
+begun {words} {saved} {send} {receive} {bytes} {notices} {send₂} {receive₂} {notices₂} {kept} {count} {s} z o stored zero unread =
     let reset : List ℕ → List ℕ → List ℕ → List ℕ → Machine = λ a b c d. perform (writes pcsr0Number 0x80000000) (machine (resetSaved 0) a b c d) .machine in
     let state : machine (savedOf saved) send₂ receive₂ bytes notices₂ ≡ firstMachine =
-    ap (λ (w : List ℕ). machine (savedOf w) send₂ receive₂ bytes notices₂) stored ∙ o .reset ∙ (λ i. reset (z .0 i) (z .1 i) (z .2 i) (z .3 i)) in
+    ap (λ (w : List ℕ). machine (savedOf w) send₂ receive₂ bytes notices₂) stored ∙ o .reset ∙ (λ i. reset (z .send i) (z .receive i) (z .bytes i) (z .notices i)) in
     record { opens = λ input. λ i. record { machine = state i; waits = waitingIn input (zero i) }; nothing = zero; none = unread }

@@ -3,13 +3,16 @@
 use Prim.Native.Nat.{ℕ, _+_, _-_, _*_, _/_, _%_, _^_, _<_, _≤_}
 use mathlib.Core.Path.{_≡_}
 use mathlib.Core.List.{List, [], _++_}
+use denote.Ref.{RefT, now}
+use denote.Triple.Both.{Both}
 use lib.Dec.{eqb}
 use lib.ListN.{length, take, drop, replicate}
 use Rattle.ground.specs.Choice.{pick}
 use Rattle.ground.specs.Lists.{part}
 use Rattle.rules.specs.Memory.{Machine, machine, sendSize, receiveSize, dataMost, noticesMost}
 use Rattle.rules.specs.Station.{recordSize, firstMachine, linesFrom, station}
-use Rattle.boundary.specs.Boundary.{savedOf}
+use Rattle.engine.specs.Lent.{Slice}
+use Rattle.boundary.specs.Boundary.{savedSize, savedOf}
 use Rattle.lines.specs.Lines.{lineMost}
 use Rattle.records.specs.Records.{machineAfter}
 use Rattle.station.specs.declared.answering.Answered.{Answered}
@@ -48,6 +51,24 @@ cameIn input n = part recordSize n input
 abbrev pub handIn : List ℕ → ℕ → ℕ → List ℕ
 handIn input kept n = part (recordSize - kept) (kept + n) input
 
+-- A number that is lent, as a contract names it.
+abbrev pub Count : Type 0
+Count = Both (RefT ℕ) (RefT ℕ)
+
+-- Less than a record stands from one place to another.
+pub record Begins (input rest : List ℕ) (from to : ℕ) : Type 0 where
+  pub order : from ≤ to
+  pub inside : to ≤ length input
+  pub less : to < from + recordSize
+  pub first : recordSize ≤ length input
+  pub room : recordSize ≤ length rest
+
+-- Less than a record waits, and so many bytes came behind it.
+pub record Filled (input out rest : List ℕ) (kept n : ℕ) : Type 0 where
+  pub rooms : Rooms input out rest
+  pub less : kept < recordSize
+  pub fits : recordSize + n ≤ length input
+
 -- Of the bytes at hand, so many of which came last, the records are answered, and the other bytes wait.
 pub record Answers (m : Machine) (came : ℕ) (hand : List ℕ) (a : Answered) (send receive bytes notices input out : List ℕ) : Type 0 where
   pub state : machine (a .saved) send receive bytes notices ≡ machineAfter (length (answeredOf came hand)) m (answeredOf came hand)
@@ -63,15 +84,27 @@ pub record Held : Type 0 where
   pub machine : Machine
   pub waits : List ℕ
 
--- As the lent memories have it: the saved state in words, the waiting bytes in the input's room.
+-- As lent memories have it: the saved state in words, the waiting bytes in the input's room.
 abbrev pub held : List ℕ → List ℕ → List ℕ → List ℕ → List ℕ → List ℕ → ℕ → Held
 held saved send receive bytes notices input kept =
     record { machine = machine (savedOf saved) send receive bytes notices; waits = waitingIn input kept }
 
--- "Memories are the largest, zero".
-abbrev pub Zeros : List ℕ → List ℕ → List ℕ → List ℕ → Type 0
-Zeros send receive bytes notices =
-    (send ≡ replicate sendSize 0) × (receive ≡ replicate receiveSize 0) × (bytes ≡ replicate dataMost 0) × (notices ≡ replicate noticesMost 0)
+-- As those of a turn have it when it begins, and when it ends.
+abbrev pub heldBefore : Slice → Slice → Slice → Slice → Slice → Slice → Count → Held
+heldBefore saved send receive bytes notices input kept =
+    held (now (saved .entry)) (now (send .entry)) (now (receive .entry)) (now (bytes .entry)) (now (notices .entry)) (now (input .entry)) (now (kept .entry))
+
+abbrev pub heldAfter : Slice → Slice → Slice → Slice → Slice → Slice → Count → Held
+heldAfter saved send receive bytes notices input kept =
+    held (now (saved .exit)) (now (send .exit)) (now (receive .exit)) (now (bytes .exit)) (now (notices .exit)) (now (input .exit)) (now (kept .exit))
+
+-- "Memories are the largest, zero"; and words for the saved state.
+pub record Zeros (saved send₀ receive₀ bytes₀ notices₀ : List ℕ) : Type 0 where
+  pub words : length saved ≡ savedSize
+  pub send : send₀ ≡ replicate sendSize 0
+  pub receive : receive₀ ≡ replicate receiveSize 0
+  pub bytes : bytes₀ ≡ replicate dataMost 0
+  pub notices : notices₀ ≡ replicate noticesMost 0
 
 -- Before the first turn: the machine after the opening reset, and no byte waits.
 abbrev pub opened : Held
@@ -138,14 +171,23 @@ pub record SoFar (h : Held) (count : ℕ) : Type 0 where
   pub many : length (read reads) ≡ count
   pub left : h ≡ after reads
 
+-- What a turn is lent: the words of the saved state, the rooms with the bytes that wait and came; and it is what the turns before left.
+pub record Turnable (saved send receive bytes notices input out rest : List ℕ) (kept count n : ℕ) : Type 0 where
+  pub words : length saved ≡ savedSize
+  pub filled : Filled input out rest kept n
+  pub counts : count < countMost
+  pub so-far : SoFar (held saved send receive bytes notices input kept) count
+
 -- A turn made of what the turns before left, and of what came, just what it should; and so, whatever was read before, all that was written
--- by now is what the turns write, and at the end of the input the station's lines of all that was read.
-pub record Turned (before : Held) (came : List ℕ) (next : ℕ) (left : Held) (out : List ℕ) : Type 0 where
+-- by now is what the turns write, and at the end of the input the station's lines of all that was read. Else the next turn can go on.
+pub record Turned (before : Held) (count : ℕ) (came : List ℕ) (next : ℕ) (left : Held) (count₂ : ℕ) (out : List ℕ) : Type 0 where
   pub state : left ≡ goneOn before came
   pub lines : take next out ≡ linesNow before came
   pub inside : next ≤ length out
   pub so-far : (r : Reads) → before ≡ after r → (left ≡ after (r ▸ came)) × (written r ++ take next out ≡ written (r ▸ came))
   pub whole : (r : Reads) → Going r → before ≡ after r → length came ≡ 0 → written r ++ take next out ≡ station (read r)
+  pub counted : count₂ ≡ count + length came
+  pub goes-on : 0 < length came → SoFar left count₂
 
 -- However the reads cut the input: the station's lines are those written so far, and then those of what waits and comes later; once the end
 -- of the input is met, they are all written; and before that, what waits is all that was read but the whole records.

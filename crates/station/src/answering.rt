@@ -1,12 +1,10 @@
 // What is done with the bytes at hand, without a read or a write: their records are answered, and the rest waits where the next bytes come.
 use rules::Saved;
 ghost use mathlib.Core.Path.{_≡_};
-ghost use Prim.Native.Nat.{_+_, _-_, _<_, _≤_};
-ghost use lib.ListN.{length};
+ghost use Prim.Native.Nat.{_-_};
 ghost use Rattle.ground.specs.Lists.{part};
-ghost use Rattle.rules.specs.Memory.{machine};
-ghost use Rattle.rules.specs.Station.{recordSize};
-ghost use Rattle.station.specs.Turns.{answeredTo, handIn, waitingIn, Rooms, Answers};
+ghost use Rattle.engine.specs.Lent.{before};
+ghost use Rattle.station.specs.Turns.{answeredTo, handIn, waitingIn, Begins, Filled, Answers};
 
 // So many of the bytes at hand are answered: the whole records, and at the end of the input a torn one too.
 fn answered_to(n: usize, filled: usize) -> usize
@@ -21,8 +19,9 @@ fn answered_to(n: usize, filled: usize) -> usize
 
 // The bytes from one place to another, less than a record, go where they wait, by way of a room of their own; how many they are.
 fn keep(input: &mut [u8], rest: &mut [u8], from: usize, to: usize) -> usize
-    requires { ⌜ (from ≤ to) × (to ≤ length (now input)) × (to < from + recordSize) × (recordSize ≤ length (now input)) × (recordSize ≤ length (now rest)) ⌝ }
-    ensures { λ r. ⌜ (r ≡ to - from) × (waitingIn (now (input .exit)) (to - from) ≡ part from (to - from) (now (input .entry))) ⌝ }
+    requires { ⌜ Begins (now input) (now rest) from to ⌝ }
+    ensures { λ r. ⌜ r ≡ to - from ⌝ }
+    ensures { λ r. ⌜ waitingIn (now (input .exit)) (to - from) ≡ part from (to - from) (now (input .entry)) ⌝ }
 {
     let n = to - from;
     words::copy(rest, 0, &input[from..to]);
@@ -50,8 +49,9 @@ pub(crate) fn answer(
     kept: usize,
     n: usize,
 ) -> Answered
-    requires { ⌜ Rooms (now input) (now out) (now rest) × (kept < recordSize) × (recordSize + n ≤ length (now input)) ⌝ }
-    ensures { λ r. ⌜ Answers (machine s (now (send .entry)) (now (receive .entry)) (now (bytes .entry)) (now (notices .entry))) n (handIn (now (input .entry)) kept n) r (now (send .exit)) (now (receive .exit)) (now (bytes .exit)) (now (notices .exit)) (now (input .exit)) (now (out .exit)) ⌝ }
+    requires { ⌜ Filled (now input) (now out) (now rest) kept n ⌝ }
+    ensures { λ r. ⌜ Answers (before s send receive bytes notices) n (handIn (now (input .entry)) kept n) r
+        (now (send .exit)) (now (receive .exit)) (now (bytes .exit)) (now (notices .exit)) (now (input .exit)) (now (out .exit)) ⌝ }
 {
     let start = 192 - kept;
     let end = start + answered_to(n, kept + n);

@@ -1,12 +1,9 @@
 // The station between its reads and writes: how it begins, and what a turn makes of bytes that came. All that one turn leaves to the next
 // stands in the lent memories, so that nothing has to be handed over.
 use crate::answering::answer;
-ghost use mathlib.Core.Path.{_≡_};
-ghost use Prim.Native.Nat.{_+_, _<_, _≤_};
-ghost use lib.ListN.{length};
+ghost use Prim.Native.Nat.{_<_};
 ghost use Rattle.rules.specs.Station.{recordSize};
-ghost use Rattle.boundary.specs.Boundary.{savedSize};
-ghost use Rattle.station.specs.Turns.{Rooms, Zeros, Begun, countMost, held, cameIn, SoFar, Turned, InTurns};
+ghost use Rattle.station.specs.Turns.{Zeros, Begun, heldBefore, heldAfter, cameIn, Turnable, Turned, InTurns};
 
 // The opening reset over memories of zeros; no byte waits, and none was read.
 pub(crate) fn begin(
@@ -18,8 +15,9 @@ pub(crate) fn begin(
     kept: &mut usize,
     count: &mut u64,
 )
-    requires { ⌜ (length (now saved) ≡ savedSize) × Zeros (now send) (now receive) (now bytes) (now notices) ⌝ }
-    ensures { λ _. ⌜ Begun (now (saved .exit)) (now (send .exit)) (now (receive .exit)) (now (bytes .entry)) (now (notices .exit)) (now (kept .exit)) (now (count .exit)) ⌝ }
+    requires { ⌜ Zeros (now saved) (now send) (now receive) (now bytes) (now notices) ⌝ }
+    ensures { λ _. ⌜ Begun (now (saved .exit)) (now (send .exit)) (now (receive .exit)) (now (bytes .exit)) (now (notices .exit))
+        (now (kept .exit)) (now (count .exit)) ⌝ }
 {
     let s = records::open(send, receive, bytes, notices);
     boundary::store(saved, s);
@@ -41,10 +39,10 @@ pub(crate) fn turn(
     rest: &mut [u8],
     out: &mut [u8],
 ) -> usize
-    requires { ⌜ (length (now saved) ≡ savedSize) × Rooms (now input) (now out) (now rest) × (now kept < recordSize) × (recordSize + n ≤ length (now input)) ⌝ }
-    requires { ⌜ (now count < countMost) × SoFar (held (now saved) (now send) (now receive) (now bytes) (now notices) (now input) (now kept)) (now count) ⌝ }
-    ensures { λ r. ⌜ (now (count .exit) ≡ now (count .entry) + n) × (0 < n → SoFar (held (now (saved .exit)) (now (send .exit)) (now (receive .exit)) (now (bytes .exit)) (now (notices .exit)) (now (input .exit)) (now (kept .exit))) (now (count .exit))) ⌝ }
-    ensures { λ r. ⌜ (now (kept .exit) < recordSize) × Turned (held (now (saved .entry)) (now (send .entry)) (now (receive .entry)) (now (bytes .entry)) (now (notices .entry)) (now (input .entry)) (now (kept .entry))) (cameIn (now (input .entry)) n) r (held (now (saved .exit)) (now (send .exit)) (now (receive .exit)) (now (bytes .exit)) (now (notices .exit)) (now (input .exit)) (now (kept .exit))) (now (out .exit)) ⌝ }
+    requires { ⌜ Turnable (now saved) (now send) (now receive) (now bytes) (now notices) (now input) (now out) (now rest) (now kept) (now count) n ⌝ }
+    ensures { λ r. ⌜ now (kept .exit) < recordSize ⌝ }
+    ensures { λ r. ⌜ Turned (heldBefore saved send receive bytes notices input kept) (now (count .entry)) (cameIn (now (input .entry)) n) r
+        (heldAfter saved send receive bytes notices input kept) (now (count .exit)) (now (out .exit)) ⌝ }
 {
     let s = boundary::load(saved);
     let answered = answer(s, send, receive, bytes, notices, input, out, rest, *kept, n);

@@ -5,6 +5,7 @@ use native.Mathlib.Omega.{arith}
 use borrow.Author.Needs.{needs}
 use lib.ListN.{length}
 use lib.Seq.{length-take-le}
+use Rattle.ground.proofs.Lists.{length-part}
 use Rattle.rules.specs.Station.{recordSize}
 use Rattle.station.specs.Turns.{held, countMost, SoFar}
 use Rattle.station.proofs.Turns.{at-first, still-waits, after-read}
@@ -40,7 +41,7 @@ main-spec =
     (λ c. search needs)
     (λ c. search needs)
     (λ c. search needs)
-    (λ c κs. (refl, (refl, refl, refl, refl)))
+    (λ c κs. record { words = refl; send = refl; receive = refl; bytes = refl; notices = refl })
     (λ c. (search needs, search needs, search needs, search needs, search needs, search needs, search needs, search needs, search needs, at-first _ (c .before .before .before .before .begin .ensures)))
     (λ c. search needs)
     (λ c κs. search needs)
@@ -55,12 +56,24 @@ main-spec =
     (λ c κs.
     let inv = c .before .before .before .before .before .before .before .before .before .before .before .before .before .before .loop .inv in
     let read = c .before .before .before .before .before .before .before .before .before .before .before .read-on in
-    ((sym (inv .0), (inv .5 ∙ sym (read .kept .0), inv .6, inv .7), search needs, read .ensures .0), (search needs, after-read (still-waits _ _ _ (inv .8) (omega (arith, inv .5)) (omega (arith, inv .5, read .kept .0)) (read .ensures .1)) (inv .9))))
+    record {
+      words = sym (inv .0);
+      filled = record { rooms = (inv .5 ∙ sym (read .kept .0), inv .6, inv .7); less = search needs; fits = read .ensures .0 };
+      counts = search needs;
+      so-far = after-read (still-waits _ _ _ (inv .8) (omega (arith, inv .5)) (omega (arith, inv .5, read .kept .0)) (read .ensures .1)) (inv .9);
+    })
     (λ c. search needs)
     (λ c. sym (length-take-le _ _ (search needs)))
     (λ c κs. search needs)
-    (λ c. omega (arith, c .before .before .before .before .before .before .before .before .before .before .before .before .turn .ensures .0 .0, c .if2 .left, c .before .before .before .before .before .before .before .before .before .before .before .before .before .before .before .before .before .before .before .before .before .before .before .before .before .before .loop-test .taken))
-    (λ c. (search needs, search needs, search needs, search needs, search needs, search needs, search needs, search needs, search needs, c .before .before .before .before .before .before .before .before .before .before .before .before .turn .ensures .0 .1 (omega (arith, c .if2 .left))))
+    (λ c.
+    let turned = c .before .before .before .before .before .before .before .before .before .before .before .before .turn in
+    let came = c .before .before .before .before .before .before .before .before .before .before .before .before .before .before .before .before .before .before .before .before .before .before .before .before .read-on in
+    omega (arith, turned .ensures .1 .counted, length-part recordSize (came .result) (came .last .0) (came .ensures .0), c .if2 .left, c .before .before .before .before .before .before .before .before .before .before .before .before .before .before .before .before .before .before .before .before .before .before .before .before .before .before .loop-test .taken))
+    (λ c.
+    let turned = c .before .before .before .before .before .before .before .before .before .before .before .before .turn in
+    let came = c .before .before .before .before .before .before .before .before .before .before .before .before .before .before .before .before .before .before .before .before .before .before .before .before .read-on in
+    (search needs, search needs, search needs, search needs, search needs, search needs, search needs, search needs, search needs,
+    turned .ensures .1 .goes-on (omega (arith, length-part recordSize (came .result) (came .last .0) (came .ensures .0), c .if2 .left))))
     (λ c. search needs)
     (λ c. search needs)
     (λ c. search needs))

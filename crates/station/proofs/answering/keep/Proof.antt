@@ -20,9 +20,7 @@ keep-spec =
     (λ c. search needs)
     (λ c. search needs)
     (λ c. sym (length-take-le _ _ (omega arith)))
-    (λ c κs. let asked = c .before .before .before .before .before .before .before .before .before .before .pre in simp length-take (omega (arith, asked .2, asked .3)))
+    (λ c κs. simp length-take (search needs))
     (λ c. search needs)
     (λ c. search needs)
-    (λ c.
-    let start = c .before .before .before .before .before .before .before .before .before .before .before .before .before in
-    (refl, to-wait (start .args .from) (start .args .to) (start .args .input .now) (start .args .rest .now) (start .pre) (c .before .before .before .before .before .before .before .copy .ensures) (c .before .before .copy2 .ensures))))
+    (λ c. (refl, search to-wait)))

@@ -1,5 +1,4 @@
 -- `station::turning::begin` meets its contract. Assumes nothing.
-use mathlib.Core.Path.{refl}
 use borrow.Author.Needs.{needs}
 use Rattle.station.proofs.Turns.{begun}
 use Rattle.station.proofs.turning.begin.Statement.{statement}
@@ -15,4 +14,4 @@ begin-spec =
     (λ c. search needs)
     (λ c. search needs)
     (λ c. search needs)
-    (λ c. begun (c .before .before .before .before .before .before .before .before .before .before .before .before .before .before .before .before .before .before .before .pre .1) (c .before .before .before .before .before .before .before .before .before .before .«open» .ensures) (c .before .before .store .ensures) refl refl))
+    (λ c. search begun))
