@@ -9,6 +9,9 @@ ghost use Rattle.rules.specs.Replies.{replyNumber, replyValue};
 ghost use Rattle.rules.specs.Station.{lineOf};
 ghost use Rattle.lines.specs.Lines.{Written, lineMost};
 
+// A line's bytes at most, as specs/Lines has them.
+pub const LINE_MOST: usize = 29;
+
 // A line from place `at` on, and the place after it.
 pub fn put_line(out: &mut [u8], at: usize, kind: u8, reply: Reply, interrupts: u32) -> usize
     requires { ⌜ at + lineMost ≤ length (now out) ⌝ }

@@ -1,14 +1,15 @@
 // The blocks of notice memory, reached by their addresses.
 use rules::BlockAddress;
-use rules::NBQR_FROM;
 use rules::Notice;
 use rules::Saved;
+use rules::sizes::BLOCK_SIZE;
+use rules::sizes::NBQR_FROM;
 ghost use mathlib.Core.Path.{_≡_};
 ghost use Prim.Native.Nat.{_+_, _≤_};
 ghost use lib.ListN.{length};
 ghost use lib.Seq.{sets};
 ghost use Rattle.ground.specs.Lists.{over};
-ghost use Rattle.rules.specs.Memory.{blockFirst, nextOf};
+ghost use Rattle.rules.specs.Memory.{blockSize, blockFirst, nextOf};
 ghost use Rattle.rules.specs.Notices.{blockWords};
 ghost use Rattle.rules.specs.Calls.{wordsOf};
 ghost use Rattle.notices.specs.Steps.{Pushable, Returns};
@@ -22,7 +23,7 @@ pub(crate) fn block_first(b: BlockAddress) -> usize
 
 // A block's next.
 pub fn next_of(notices: &[u32], b: BlockAddress) -> u32
-    requires { ⌜ blockFirst b + 8 ≤ length (now notices) ⌝ }
+    requires { ⌜ blockFirst b + blockSize ≤ length (now notices) ⌝ }
     ensures { λ r. ⌜ r ≡ nextOf (now (notices .entry)) b ⌝ }
 {
     notices[block_first(b) + 3]
@@ -30,7 +31,7 @@ pub fn next_of(notices: &[u32], b: BlockAddress) -> u32
 
 // A notice and its next, in a block.
 pub(crate) fn fill_block(notices: &mut [u32], b: BlockAddress, n: Notice, next: u32)
-    requires { ⌜ blockFirst b + 8 ≤ length (now notices) ⌝ }
+    requires { ⌜ blockFirst b + blockSize ≤ length (now notices) ⌝ }
     ensures { λ _. ⌜ now (notices .exit) ≡ sets (now (notices .entry)) (blockFirst b) (blockWords n next) ⌝ }
 {
     let m = n.metadata;
@@ -40,11 +41,11 @@ pub(crate) fn fill_block(notices: &mut [u32], b: BlockAddress, n: Notice, next: 
 
 // A block's eight words, to the start of a room.
 pub(crate) fn copy_block(notices: &[u32], b: BlockAddress, room: &mut [u32])
-    requires { ⌜ (blockFirst b + 8 ≤ length (now notices)) × (8 ≤ length (now room)) ⌝ }
+    requires { ⌜ (blockFirst b + blockSize ≤ length (now notices)) × (blockSize ≤ length (now room)) ⌝ }
     ensures { λ _. ⌜ now (room .exit) ≡ over (wordsOf (now (notices .entry)) b) (now (room .entry)) ⌝ }
 {
     let first = block_first(b);
-    let end = first + 8;
+    let end = first + BLOCK_SIZE;
     words::store(room, 0, &notices[first..end]);
 }
 

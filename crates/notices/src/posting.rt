@@ -1,20 +1,22 @@
 // When a notice can be posted, and the one posting behind message, ack, fault and the end of a send.
 use crate::Step;
 use crate::blocks;
-use rules::AQR_FROM;
 use rules::BlockAddress;
 use rules::ListIndex;
-use rules::NBQR_FROM;
-use rules::NQR_FROM;
 use rules::Notice;
 use rules::Posting;
 use rules::Queue;
 use rules::Saved;
+use rules::sizes::AQR_FROM;
+use rules::sizes::NBQR_FROM;
+use rules::sizes::NQR_FROM;
+use rules::sizes::QUEUE_SIZE;
 use tables::head_word;
 use tables::token_word;
 ghost use mathlib.Core.Path.{_≡_};
 ghost use Prim.Native.Nat.{_+_, _≤_, _<_};
 ghost use lib.ListN.{length};
+ghost use Rattle.rules.specs.Memory.{receiveSize, lists, queueSize};
 ghost use Rattle.rules.specs.Notices.{canPost, canPostAll, pushAqr, pushNqr, emptyInterrupt, fillHead, enqueueToken, postAll};
 ghost use Rattle.rules.specs.Notices as rule;
 ghost use Rattle.laws.specs.Postings.{Listed};
@@ -22,14 +24,14 @@ ghost use Rattle.notices.specs.Steps.{Pushable, Pushes, Does, Posts, Enq
 
 // Whether a list can be posted to: a set head, a waiting block, and room for the token where it is pushed.
 fn can_post(s: Saved, receive: &[u32], l: ListIndex) -> bool
-    requires { ⌜ (l .0 < 64) × (length (now receive) ≡ 2048) ⌝ }
+    requires { ⌜ (l .0 < lists) × (length (now receive) ≡ receiveSize) ⌝ }
     ensures { λ r. ⌜ r ≡ canPost s (now (receive .entry)) l ⌝ }
 {
     let nqr = s.nqr;
     let nbqr = s.nbqr;
     !(receive[head_word(l)] == 0)
         & !(nbqr.length == 0)
-        & (!(receive[token_word(l)] % 2 == 1) | (nqr.length < 256))
+        & (!(receive[token_word(l)] % 2 == 1) | (nqr.length < QUEUE_SIZE))
 }
 
 // A queue after a push, its interrupt bit, and the interrupt.
@@ -48,7 +50,7 @@ fn push_interrupting(
     number: u32,
     word: u32,
 ) -> Pushed
-    requires { ⌜ (q .place < 256) × (q .length < 256) × (from + 256 ≤ length (now receive)) ⌝ }
+    requires { ⌜ (q .place < queueSize) × (q .length < queueSize) × (from + queueSize ≤ length (now receive)) ⌝ }
     ensures { λ r. ⌜ Pushes from number q bit word (now (receive .entry)) r (now (receive .exit)) ⌝ }
 {
     let queue = q.push(receive, from, word);
@@ -162,7 +164,7 @@ fn post(l: ListIndex, n: Notice, s: Saved, receive: &mut [u32], notices: &mut [u
 
 // Whether what a call has to post can be posted.
 pub fn can_post_all(s: Saved, receive: &[u32], p: Posting) -> bool
-    requires { ⌜ Listed p × (length (now receive) ≡ 2048) ⌝ }
+    requires { ⌜ Listed p × (length (now receive) ≡ receiveSize) ⌝ }
     ensures { λ r. ⌜ r ≡ canPostAll s (now (receive .entry)) p ⌝ }
 {
     match p {

@@ -9,19 +9,22 @@ use rules::Reply;
 use rules::Saved;
 use rules::Taking;
 use rules::Verdict;
+use rules::sizes::BLOCK_SIZE;
+use rules::sizes::LISTS;
+use rules::sizes::QUEUE_SIZE;
 use tables::is_block;
 use tables::place_word;
 ghost use mathlib.Core.Path.{_≡_};
 ghost use Prim.Native.Nat.{_<_};
 ghost use lib.ListN.{length};
-ghost use Rattle.rules.specs.Memory.{machine};
+ghost use Rattle.rules.specs.Memory.{machine, receiveSize, lists};
 ghost use Rattle.rules.specs.Notices.{placeOf};
 ghost use Rattle.rules.specs.Calls.{judgeTake};
 ghost use Rattle.notices.specs.Steps.{Takeable, TakeableTo, Takes, Acts};
 
 // A list's reader's place.
 fn place_of(receive: &[u32], l: ListIndex) -> u32
-    requires { ⌜ (l .0 < 64) × (length (now receive) ≡ 2048) ⌝ }
+    requires { ⌜ (l .0 < lists) × (length (now receive) ≡ receiveSize) ⌝ }
     ensures { λ r. ⌜ r ≡ placeOf (now (receive .entry)) l ⌝ }
 {
     receive[place_word(l)]
@@ -42,10 +45,10 @@ pub fn judge_take(
     if let Verdict::No(why) = sound::gate(s, send, receive, bytes.len(), notices.len()) {
         return Taking::No(why);
     }
-    if 64 <= l {
+    if LISTS <= l {
         return Taking::No(Refusal::BadValue);
     }
-    if room < 8 {
+    if room < BLOCK_SIZE {
         return Taking::No(Refusal::Short);
     }
     let place = place_of(receive, ListIndex(l));
@@ -60,7 +63,7 @@ pub fn judge_take(
         return Taking::No(Refusal::Unsound);
     }
     let nbqr = s.nbqr;
-    if 256 <= nbqr.length {
+    if QUEUE_SIZE <= nbqr.length {
         return Taking::No(Refusal::Full);
     }
     Taking::Takes(ListIndex(l), BlockAddress(place), BlockAddress(next))

@@ -1,6 +1,8 @@
 // A whole packet formed in a lent room.
 use rules::Header;
 use rules::Metadata;
+use rules::sizes::FLAGGED_START;
+use rules::sizes::PLAIN_START;
 ghost use Prim.Native.Nat.{_+_, _*_, _≤_};
 ghost use lib.ListN.{length};
 ghost use Rattle.ground.specs.Bytes.{toBytes};
@@ -17,10 +19,10 @@ fn put_metadata(room: &mut [u8], header: Header, metadata: Metadata) -> usize
     let flagged = header.control1 / 0x800_0000 % 2 == 1;
     if flagged {
         let row = [metadata.a, metadata.b, metadata.c, metadata.d];
-        words::copy_words(room, 20, &row);
-        36
+        words::copy_words(room, PLAIN_START, &row);
+        FLAGGED_START
     } else {
-        20
+        PLAIN_START
     }
 }
 

@@ -1,4 +1,5 @@
 // "Packet": formed in a lent room, read from a lent slice, its payload landed in data memory.
+use rules::sizes::PLAIN_START;
 ghost use mathlib.Core.Path.{_≡_};
 ghost use Rattle.rules.specs.Checksum.{checkOf};
 ghost use Rattle.rules.specs.Packet.{headerCovered};
@@ -14,5 +15,5 @@ fn header_check(bytes: &[u8], from: usize) -> u16
     ensures { λ r. ⌜ r ≡ checkOf (headerCovered from (now (bytes .entry))) ⌝ }
 {
     let first = checksum::of(&bytes[0..16]);
-    checksum::from(first, &bytes[20..from])
+    checksum::from(first, &bytes[PLAIN_START..from])
 }

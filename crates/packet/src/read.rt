@@ -2,6 +2,9 @@
 use rules::Header;
 use rules::Metadata;
 use rules::Packet;
+use rules::sizes::FLAGGED_START;
+use rules::sizes::PACKET_MOST;
+use rules::sizes::PLAIN_START;
 ghost use mathlib.Core.Path.{_≡_};
 ghost use Prim.Native.Nat.{_≤_};
 ghost use lib.ListN.{length};
@@ -22,13 +25,13 @@ pub fn is_packet(packet: &[u8]) -> bool
     ensures { λ r. ⌜ r ≡ isPacket (now (packet .entry)) ⌝ }
 {
     let n = packet.len();
-    if n < 20 {
+    if n < PLAIN_START {
         return false;
     }
     let flag = meta_flag(packet);
     (n % 4 == 0)
-        & ((!flag & ((n == 20) | ((28 <= n) & (n <= 152))))
-            | (flag & ((n == 36) | ((44 <= n) & (n <= 168)))))
+        & ((!flag & ((n == PLAIN_START) | ((28 <= n) & (n <= 152))))
+            | (flag & ((n == FLAGGED_START) | ((44 <= n) & (n <= PACKET_MOST)))))
 }
 
 // "The payload begins at byte 20, or at byte 36 with metadata".
@@ -36,7 +39,11 @@ fn payload_from(packet: &[u8]) -> usize
     requires { ⌜ Sized (now packet) ⌝ }
     ensures { λ r. ⌜ r ≡ payloadFrom (now (packet .entry)) ⌝ }
 {
-    if meta_flag(packet) { 36 } else { 20 }
+    if meta_flag(packet) {
+        FLAGGED_START
+    } else {
+        PLAIN_START
+    }
 }
 
 // The payload: the packet's part from that byte, up to the word of the body check.
@@ -135,7 +142,7 @@ pub fn fields_ok(p: Packet) -> bool
         & (zero_top == 0)
         & (p.zerohalf == 0)
         & ((meta_len <= 4) & (flagged | (meta_len == 0)))
-        & (!ack_pkt | (p.length == 20))
+        & (!ack_pkt | (p.length == PLAIN_START as u32))
 }
 
 // "body check or its padding": one comparison of the last word; an empty payload has none.

@@ -1,9 +1,7 @@
 // The types of the engine, by value. What document 01 says of them stands in specs/, as definitions.
 mod queues;
+pub mod sizes;
 
-pub use queues::AQR_FROM;
-pub use queues::NBQR_FROM;
-pub use queues::NQR_FROM;
 pub use queues::Removal;
 
 // ---- the saved state

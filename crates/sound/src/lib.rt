@@ -8,6 +8,11 @@ pub use registers::pointer_ok;
 use rules::Refusal;
 use rules::Saved;
 use rules::Verdict;
+use rules::sizes::BLOCK_SIZE;
+use rules::sizes::DATA_MOST;
+use rules::sizes::NOTICES_MOST;
+use rules::sizes::RECEIVE_SIZE;
+use rules::sizes::SEND_SIZE;
 ghost use mathlib.Core.Path.{_≡_};
 ghost use lib.ListN.{length};
 ghost use Rattle.rules.specs.Memory.{sizesOk};
@@ -24,12 +29,12 @@ pub fn sizes_ok(
 ) -> bool
     ensures { λ r. ⌜ r ≡ sizesOk sendlength receivelength datalength noticelength ⌝ }
 {
-    (sendlength == 1024)
-        & (receivelength == 2048)
-        & (datalength <= 32768)
-        & (8 <= noticelength)
-        & (noticelength <= 2048)
-        & (noticelength % 8 == 0)
+    (sendlength == SEND_SIZE)
+        & (receivelength == RECEIVE_SIZE)
+        & (datalength <= DATA_MOST)
+        & (BLOCK_SIZE <= noticelength)
+        & (noticelength <= NOTICES_MOST)
+        & (noticelength % BLOCK_SIZE == 0)
 }
 
 // The machine is sound. The lists are scanned only once the queues are in range, so that no scan is longer than a queue.

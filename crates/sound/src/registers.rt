@@ -1,8 +1,14 @@
 // The numbers of the saved state that have a range.
 use rules::Queue;
 use rules::Saved;
+use rules::sizes::DESCRIPTORS;
+use rules::sizes::QUEUE_SIZE;
+use rules::sizes::RECEIVE_SIZE;
+use rules::sizes::SEND_SIZE;
+use rules::sizes::SLOTS_MOST;
 ghost use mathlib.Core.Path.{_≡_};
 ghost use Prim.Native.Nat.{_≤_};
+ghost use Rattle.rules.specs.Memory.{receiveSize};
 ghost use Rattle.rules.specs.Saved.{pcsr0Ok};
 ghost use Rattle.rules.specs.Registers.{pointerOk};
 ghost use Rattle.rules.specs.Sound.{registersOk, queueOk, queuesOk};
@@ -17,11 +23,11 @@ pub fn pcsr0_ok(w: u32) -> bool
 }
 
 // A pointer into a RAM of so many words.
-pub fn pointer_ok(words: u32, p: u32) -> bool
-    requires { ⌜ words ≤ 2048 ⌝ }
+pub fn pointer_ok(words: usize, p: u32) -> bool
+    requires { ⌜ words ≤ receiveSize ⌝ }
     ensures { λ r. ⌜ r ≡ pointerOk words p ⌝ }
 {
-    (p % 4 == 0) & (p < 4 * words)
+    (p % 4 == 0) & ((p as usize) < 4 * words)
 }
 
 // Every register is in its range.
@@ -33,17 +39,17 @@ pub(crate) fn registers_ok(s: Saved) -> bool
         & pcsr0_ok(s.pcsr0)
         & (s.inthi <= 1)
         & (s.intlo <= 1)
-        & (s.slots <= 64)
-        & pointer_ok(1024, s.sendpointer)
-        & pointer_ok(2048, s.receivepointer)
-        & (s.lastsender < 4)
+        & (s.slots <= SLOTS_MOST)
+        & pointer_ok(SEND_SIZE, s.sendpointer)
+        & pointer_ok(RECEIVE_SIZE, s.receivepointer)
+        & (s.lastsender < DESCRIPTORS)
 }
 
 // A place below 256 and a length of at most 256.
 fn queue_ok(q: Queue) -> bool
     ensures { λ r. ⌜ r ≡ queueOk q ⌝ }
 {
-    (q.place < 256) & (q.length <= 256)
+    (q.place < QUEUE_SIZE) & (q.length <= QUEUE_SIZE)
 }
 
 // NQR, AQR and NBQR.

@@ -2,17 +2,19 @@
 use crate::metadata_at;
 use rules::Descriptor;
 use rules::DescriptorIndex;
+use rules::sizes::DESCRIPTOR_SIZE;
 ghost use mathlib.Core.Path.{_≡_};
 ghost use Prim.Native.Nat.{_<_};
 ghost use lib.ListN.{length};
+ghost use Rattle.rules.specs.Memory.{sendSize, descriptors};
 ghost use Rattle.rules.specs.Sending.{descriptorAt, storeDescriptor};
 
 // Words 0 to 6 and 8 to 11 of a descriptor.
 pub fn descriptor_at(send: &[u32], d: DescriptorIndex) -> Descriptor
-    requires { ⌜ (d .0 < 4) × (length (now send) ≡ 1024) ⌝ }
+    requires { ⌜ (d .0 < descriptors) × (length (now send) ≡ sendSize) ⌝ }
     ensures { λ r. ⌜ r ≡ descriptorAt (now (send .entry)) d ⌝ }
 {
-    let first = 16 * d.0 as usize;
+    let first = (DESCRIPTOR_SIZE * d.0) as usize;
     Descriptor {
         msgaddress: send[first],
         address0: send[first + 1],
@@ -27,7 +29,7 @@ pub fn descriptor_at(send: &[u32], d: DescriptorIndex) -> Descriptor
 
 // Words 0 to 6 stored: all that a go and a packet change.
 pub fn store_descriptor(send: &mut [u32], d: DescriptorIndex, v: Descriptor)
-    requires { ⌜ (d .0 < 4) × (length (now send) ≡ 1024) ⌝ }
+    requires { ⌜ (d .0 < descriptors) × (length (now send) ≡ sendSize) ⌝ }
     ensures { λ _. ⌜ now (send .exit) ≡ storeDescriptor (now (send .entry)) d v ⌝ }
 {
     let row = [
@@ -39,5 +41,5 @@ pub fn store_descriptor(send: &mut [u32], d: DescriptorIndex, v: Descriptor)
         v.control1,
         v.status2,
     ];
-    words::store(send, 16 * d.0 as usize, &row);
+    words::store(send, (DESCRIPTOR_SIZE * d.0) as usize, &row);
 }

@@ -1,5 +1,9 @@
 // The go rule that register writes and soundness share, and which descriptors are active.
 use rules::Descriptor;
+use rules::sizes::DIRECT_FROM;
+use rules::sizes::DIRECT_TO;
+use rules::sizes::LISTS;
+use rules::sizes::MOST24;
 ghost use mathlib.Core.Path.{_≡_};
 ghost use Rattle.rules.specs.Words.{metaOk};
 ghost use Rattle.rules.specs.Sending.{isActive, addressOk, messageSizeOk, goRule};
@@ -28,7 +32,7 @@ fn address_ok(direct: bool, address: u32, size: u32, datalength: usize) -> bool
 {
     let end = address as usize + size as usize;
     (!direct & (end <= datalength))
-        | (direct & (address % 4 == 0) & (0x100 <= address) & (end <= 0x1000))
+        | (direct & (address % 4 == 0) & (DIRECT_FROM <= address) & (end <= DIRECT_TO))
 }
 
 // What the go rule asks of a size.
@@ -38,7 +42,7 @@ fn message_size_ok(d: Descriptor, control1: u32, size: u32, datalength: usize) -
     let offset = d.control0 % 0x100_0000;
     let direct_io = control1 / 0x8000_0000 % 2 == 1;
     (size % 4 == 0)
-        & (offset as usize + size as usize <= 16_777_215)
+        & (offset as usize + size as usize <= MOST24 as usize)
         & address_ok(direct_io, d.msgaddress, size, datalength)
 }
 
@@ -56,6 +60,6 @@ pub fn go_rule(d: Descriptor, control1: u32, size: u32, datalength: usize) -> bo
     meta_ok(control1)
         & (reserved == 0)
         & (!ack_pkt | (control_pkt & !meta_data))
-        & (!notify | (note_index < 64))
+        & (!notify | (note_index < LISTS))
         & (control_pkt | message_size_ok(d, control1, size, datalength))
 }

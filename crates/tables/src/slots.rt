@@ -2,17 +2,19 @@
 use crate::metadata_at;
 use rules::Slot;
 use rules::SlotIndex;
+use rules::sizes::SLOT_SIZE;
 ghost use mathlib.Core.Path.{_≡_};
 ghost use Prim.Native.Nat.{_<_};
 ghost use lib.ListN.{length};
+ghost use Rattle.rules.specs.Memory.{receiveSize, slotsMost};
 ghost use Rattle.rules.specs.Slots.{slotAt, storeSlot};
 
 // The sixteen words of a slot.
 pub fn slot_at(receive: &[u32], i: SlotIndex) -> Slot
-    requires { ⌜ (i .0 < 64) × (length (now receive) ≡ 2048) ⌝ }
+    requires { ⌜ (i .0 < slotsMost) × (length (now receive) ≡ receiveSize) ⌝ }
     ensures { λ r. ⌜ r ≡ slotAt (now (receive .entry)) i ⌝ }
 {
-    let first = 16 * i.0 as usize;
+    let first = (SLOT_SIZE * i.0) as usize;
     Slot {
         base: receive[first],
         size: receive[first + 1],
@@ -32,7 +34,7 @@ pub fn slot_at(receive: &[u32], i: SlotIndex) -> Slot
 
 // The sixteen words stored.
 pub fn store_slot(receive: &mut [u32], i: SlotIndex, v: Slot)
-    requires { ⌜ (i .0 < 64) × (length (now receive) ≡ 2048) ⌝ }
+    requires { ⌜ (i .0 < slotsMost) × (length (now receive) ≡ receiveSize) ⌝ }
     ensures { λ _. ⌜ now (receive .exit) ≡ storeSlot (now (receive .entry)) i v ⌝ }
 {
     let m = v.metadata;
@@ -54,5 +56,5 @@ pub fn store_slot(receive: &mut [u32], i: SlotIndex, v: Slot)
         v.namea,
         v.nameb,
     ];
-    words::store(receive, 16 * i.0 as usize, &row);
+    words::store(receive, (SLOT_SIZE * i.0) as usize, &row);
 }

@@ -1,4 +1,5 @@
 -- `packet::read::fields_ok` meets its contract. Assumes nothing.
+use borrow.Author.Needs.{needs}
 use mathlib.Core.Path.{refl}
 use Rattle.rules.specs.Packet.{fieldsOk}
 use Rattle.packet.proofs.read.fields_ok.Statement.{statement}
@@ -6,4 +7,4 @@ use Rattle.packet.proofs.read.fields_ok.Tie as tie
 
 pub fields-ok-spec : {M : Type 1} → statement M
 unfolding fieldsOk
-fields-ok-spec = tie.close (tie.spec (λ c. refl))
+fields-ok-spec = tie.close (tie.spec (λ c. search needs) (λ c. refl))
