@@ -29,10 +29,10 @@ unfolding writeCall
 write-whole m a v judged does = does ∙ ap (actWrite m (decode a) v) judged
 
 -- The receive.
-pub receive-whole : (m : Machine) (packet : List ℕ) {v told : Receiving} {o : Outcome} → v ≡ judgeReceive m packet → v ≡ told
-    → o ≡ actReceive m packet told → o ≡ receiveCall m packet
+pub receive-whole : (m : Machine) (packet : List ℕ) {v : Receiving} {o : Outcome} → v ≡ judgeReceive m packet → o ≡ actReceive m packet v
+    → o ≡ receiveCall m packet
 unfolding receiveCall
-receive-whole m packet judged tells does = does ∙ ap (actReceive m packet) (sym tells ∙ judged)
+receive-whole m packet judged does = does ∙ ap (actReceive m packet) judged
 
 -- The send.
 pub send-whole : (m : Machine) (ready : Bool) (room : List ℕ) {v : Sending} {o : Outcome} → v ≡ judgeSend m ready (length room) → o ≡ actSend m room v

@@ -1,7 +1,5 @@
 // The receive.
-use replies::refuse;
 use rules::Answer;
-use rules::Receiving;
 use rules::Saved;
 ghost use mathlib.Core.List.{[]};
 ghost use mathlib.Core.Path.{_≡_};
@@ -19,8 +17,6 @@ pub fn receive(
 ) -> Answer
     ensures { λ r. ⌜ leaves r send receive bytes notices [] ≡ receiveCall (before s send receive bytes notices) (now (packet .entry)) ⌝ }
 {
-    match receiver::judge_receive(s, send, receive, bytes, notices, packet) {
-        Receiving::No(why) => refuse(s, why),
-        Receiving::ComesTo(p, r) => receiver::act_receive(p, r, s, receive, bytes, notices, packet),
-    }
+    let receiving = receiver::judge_receive(s, send, receive, bytes, notices, packet);
+    receiver::act_receive(receiving, s, receive, bytes, notices, packet)
 }

@@ -1,5 +1,5 @@
 -- What finding room and acting ask, from what the table of steps says. Assumes nothing.
-use mathlib.Core.Path.{_≡_, refl, subst}
+use mathlib.Core.Path.{_≡_, refl, subst, _∙_}
 use mathlib.Core.Bool.{not}
 use mathlib.Core.List.{List}
 use Prim.Native.Nat.{ℕ, _≤_}
@@ -23,7 +23,7 @@ use Rattle.laws.proofs.Verdicts.{of-receive}
 use Rattle.packet.specs.Packet.{Sized}
 use Rattle.packet.proofs.Reading.{sized}
 use Rattle.notices.proofs.Facts.{pushable, postable-all}
-use Rattle.receiver.specs.Acting.{Known, Landable, Receivable}
+use Rattle.receiver.specs.Acting.{Known, Landable, Boardable, Receivable}
 use Rattle.receiver.specs.Judging.{Judgeable, Answerable}
 
 -- ---- a payload is a part of its packet
@@ -77,10 +77,10 @@ answerable s receive n packet p r j e =
 -- ---- what acting asks
 
 -- A receive that was judged to come to a receipt.
-pub receivable : (m : Machine) (packet : List ℕ) {p : Packet} {r : Receipt} → judgeReceive m packet ≡ Receiving.ComesTo p r
-    → Receivable (m .saved) (m .receive) (m .bytes) (length (m .notices)) packet p r
+comes : (m : Machine) (packet : List ℕ) {p : Packet} {r : Receipt} → judgeReceive m packet ≡ Receiving.ComesTo p r
+    → Landable (m .bytes) packet p r × Boardable p r (m .saved) (m .receive) (length (m .notices))
 unfolding hasRoomFor
-receivable m packet {p} {r} h =
+comes m packet {p} {r} h =
     let s : Saved = m .saved in
     let receive : List ℕ = m .receive in
     let n : ℕ = length (m .bytes) in
@@ -89,14 +89,18 @@ receivable m packet {p} {r} h =
     let size = sound .sized .receive in
     let whole : Sized packet = sized packet (c .whole) in
     let posts = canPostAll s receive (receiptPosting p r) in
+    let lands : Landable (m .bytes) packet p r = landable s receive n p r (c .says) (m .bytes) packet refl whole (c .read) in
+    let boards : Boardable p r s receive (length (m .notices)) =
     record {
-      landable = landable s receive n p r (c .says) (m .bytes) packet refl whole (c .read);
-      boardable = record {
-        enterable = record {
-          storable = record { known = known s receive n p r (c .says) (sound .ranges .slots) (payload-few packet p (c .read) whole); size = size };
-          aqr = λ e. pushable (s .aqr) receive (sound .aqr) size (or-second (not (needsAqr p r)) (hasRoom (s .aqr)) (and-right posts _ (c .room)) (not-no e));
-        };
-        posting =
-            postable-all s receive _ size (sound .nqr) (sound .nbqr) (receiptPosting p r) (sound .heads) (c .listed) (and-left posts _ (c .room));
+      enterable = record {
+        storable = record { known = known s receive n p r (c .says) (sound .ranges .slots) (payload-few packet p (c .read) whole); size = size };
+        aqr = λ e. pushable (s .aqr) receive (sound .aqr) size (or-second (not (needsAqr p r)) (hasRoom (s .aqr)) (and-right posts _ (c .room)) (not-no e));
       };
-    }
+      posting = postable-all s receive _ size (sound .nqr) (sound .nbqr) (receiptPosting p r) (sound .heads) (c .listed) (and-left posts _ (c .room));
+    } in
+    (lands, boards)
+
+-- A receive that was judged can be acted on.
+pub receivable : (m : Machine) (packet : List ℕ) {v : Receiving} → judgeReceive m packet ≡ v
+    → Receivable v (m .saved) (m .receive) (m .bytes) (length (m .notices)) packet
+receivable m packet h = record { landable = λ p r e. comes m packet (h ∙ e) .0; boardable = λ p r e. comes m packet (h ∙ e) .1 }

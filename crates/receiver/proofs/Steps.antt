@@ -2,7 +2,7 @@
 use mathlib.Core.Path.{_≡_, refl, sym, ap, _∙_}
 use mathlib.Core.Logic.{_⊎_}
 use mathlib.Core.Bool.{Bool, true, false}
-use mathlib.Core.List.{List}
+use mathlib.Core.List.{List, []}
 use Prim.Native.Nat.{ℕ, _+_}
 use native.Mathlib.Nat.{zero-add, add-zero}
 use native.Mathlib.Omega.{arith}
@@ -10,10 +10,13 @@ use denote.Enum.Declared.{tagOf}
 use lib.ListN.{length}
 use lib.Seq.{sets, length-sets}
 use Rattle.ground.proofs.Choice.{pick-yes, pick-no}
+use Rattle.rules.specs.declared.Answer.{Answer}
 use Rattle.rules.specs.declared.Fault.{Fault}
 use Rattle.rules.specs.declared.Packet.{Packet}
 use Rattle.rules.specs.declared.Posting.{Posting}
 use Rattle.rules.specs.declared.Receipt.{Receipt}
+use Rattle.rules.specs.declared.Receiving.{Receiving}
+use Rattle.rules.specs.declared.Refusal.{Refusal}
 use Rattle.rules.specs.declared.Reply.{Reply}
 use Rattle.rules.specs.declared.Saved.{Saved}
 use Rattle.rules.specs.declared.Slot.{Slot}
@@ -30,10 +33,11 @@ use Rattle.rules.specs.Receipt.{slotAfter, receiptPosting, needsAqr}
 use Rattle.rules.specs.Receipt.{aqrEntry, slotStored, payloadStored, aqrStored, countedBy, receivedOnBoard, received}
 use Rattle.rules.specs.Calls.{receiptReply, actReceive}
 use Rattle.packet.specs.Packet.{Landing}
+use Rattle.replies.specs.Refusing.{Refuses}
 use Rattle.notices.specs.declared.Step.{Step}
 use Rattle.notices.specs.Steps.{Pushable, Does, Posts, PostableAll}
 use Rattle.notices.proofs.Facts.{postable-slot, postable-aqr}
-use Rattle.receiver.specs.Acting.{Known, Landable, Enterable, Boardable, Keeps, landedOnBoard, Precedes, Receives}
+use Rattle.receiver.specs.Acting.{Known, Landable, Enterable, Boardable, Keeps, landedOnBoard, Precedes, Receivable, Receives}
 use Rattle.receiver.proofs.Meetings.{unless-lands, unless-fails}
 
 -- ---- data memory
@@ -184,10 +188,25 @@ module _ (p : Packet) (r : Receipt) (s : Saved) (receive receive₂ : List ℕ) 
 
 -- ---- the receipt
 
--- A receipt that was carried out.
-pub receives : (s : Saved) (receive bytes notices packet : List ℕ) (p : Packet) (r : Receipt) (step : Step) (receive₂ bytes₂ notices₂ : List ℕ) (reply : Reply)
-    → bytes₂ ≡ payloadStored packet p r bytes → Posts (receivedOnBoard p r) 7 s receive notices step receive₂ notices₂ → reply ≡ receiptReply r
-    → Receives p r s receive bytes notices packet (record { reply = reply; interrupts = step .interrupts; saved = step .saved }) receive₂ bytes₂ notices₂
-unfolding actReceive received
-receives s receive bytes notices packet p r step receive₂ bytes₂ notices₂ reply landed d told =
-    record { whole = λ send. rw (told, landed, ← d .whole 0, zero-add (step .interrupts)) }
+-- What acting asks of what was judged.
+module _ {s : Saved} {receive bytes : List ℕ} {n : ℕ} {packet : List ℕ} {v : Receiving} (a : Receivable v s receive bytes n packet) {p : Packet} {r : Receipt} where
+  pub land-asks : v ≡ Receiving.ComesTo p r → Landable bytes packet p r
+  land-asks e = a .landable p r e
+
+  pub board-asks : v ≡ Receiving.ComesTo p r → Boardable p r s receive n
+  board-asks e = a .boardable p r e
+
+-- By what was judged.
+module _ (v : Receiving) (s : Saved) (receive bytes notices packet : List ℕ) where
+  -- A refusal changes nothing.
+  pub receives-no : (why : Refusal) (a : Answer) → v ≡ Receiving.No why → Refuses s why a → Receives v s receive bytes notices packet a receive bytes notices
+  unfolding actReceive
+  receives-no why a e told = record { whole = λ send. rw e (told .whole send receive bytes notices []) }
+
+  -- The payload in data memory, the rest on the board, the reply.
+  pub receives : (p : Packet) (r : Receipt) (step : Step) (receive₂ bytes₂ notices₂ : List ℕ) (reply : Reply) → v ≡ Receiving.ComesTo p r
+      → bytes₂ ≡ payloadStored packet p r bytes → Posts (receivedOnBoard p r) 7 s receive notices step receive₂ notices₂ → reply ≡ receiptReply r
+      → Receives v s receive bytes notices packet (record { reply = reply; interrupts = step .interrupts; saved = step .saved }) receive₂ bytes₂ notices₂
+  unfolding actReceive received
+  receives p r step receive₂ bytes₂ notices₂ reply is landed d told =
+      record { whole = λ send. rw (is, told, landed, ← d .whole 0, zero-add (step .interrupts)) }

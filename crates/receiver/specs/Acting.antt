@@ -57,10 +57,10 @@ pub record Boardable (p : Packet) (r : Receipt) (s : Saved) (receive : List ℕ)
 pub record Landable (bytes packet : List ℕ) (p : Packet) (r : Receipt) : Type 0 where
   pub landing : (i : SlotIndex) (v : Slot) → r ≡ Receipt.Lands i v → Landing packet (v .base + offset (p .header .control0)) bytes
 
--- A receipt that can be carried out.
-pub record Receivable (s : Saved) (receive bytes : List ℕ) (n : ℕ) (packet : List ℕ) (p : Packet) (r : Receipt) : Type 0 where
-  pub landable : Landable bytes packet p r
-  pub boardable : Boardable p r s receive n
+-- A receive can be acted on; a refusal asks nothing.
+pub record Receivable (v : Receiving) (s : Saved) (receive bytes : List ℕ) (n : ℕ) (packet : List ℕ) : Type 0 where
+  pub landable : (p : Packet) (r : Receipt) → v ≡ Receiving.ComesTo p r → Landable bytes packet p r
+  pub boardable : (p : Packet) (r : Receipt) → v ≡ Receiving.ComesTo p r → Boardable p r s receive n
 
 -- A slot whose notice has no word beyond 32 bits.
 pub record Notable (i : SlotIndex) (v : Slot) : Type 0 where
@@ -83,7 +83,6 @@ pub record Precedes (f : Board → Board) (s : Saved) (receive : List ℕ) (step
   pub board : Does f 1 s receive step receive₂
   pub kept : Keeps s receive (step .saved) receive₂
 
--- A receipt was carried out.
-pub record Receives (p : Packet) (r : Receipt) (s : Saved) (receive bytes notices packet : List ℕ) (a : Answer) (receive₂ bytes₂ notices₂ : List ℕ) : Type 0 where
-  pub whole : (send : List ℕ) → answered a send receive₂ bytes₂ notices₂ []
-      ≡ actReceive (machine s send receive bytes notices) packet (Receiving.ComesTo p r)
+-- A receive was carried out or refused.
+pub record Receives (v : Receiving) (s : Saved) (receive bytes notices packet : List ℕ) (a : Answer) (receive₂ bytes₂ notices₂ : List ℕ) : Type 0 where
+  pub whole : (send : List ℕ) → answered a send receive₂ bytes₂ notices₂ [] ≡ actReceive (machine s send receive bytes notices) packet v

@@ -3,9 +3,11 @@ use crate::first_failure;
 use crate::landing;
 use crate::posting;
 use notices::Step;
+use replies::refuse;
 use rules::Answer;
 use rules::Packet;
 use rules::Receipt;
+use rules::Receiving;
 use rules::Reply;
 use rules::Saved;
 ghost use mathlib.Core.Path.{_≡_};
@@ -89,7 +91,8 @@ fn receive_on_board(
     notices: &mut [u32],
 ) -> Step
     requires { ⌜ Boardable p r s (now receive) (length (now notices)) ⌝ }
-    ensures { λ step. ⌜ Posts (receivedOnBoard p r) 7 s (now (receive .entry)) (now (notices .entry)) step (now (receive .exit)) (now (notices .exit)) ⌝ }
+    ensures { λ step. ⌜ Posts (receivedOnBoard p r) 7 s (now (receive .entry)) (now (notices .entry)) step
+        (now (receive .exit)) (now (notices .exit)) ⌝ }
 {
     let landed = land(p, r, s, receive);
     let saved = landed.saved;
@@ -112,25 +115,30 @@ fn reply(r: Receipt) -> Reply
     }
 }
 
-// A receipt that goes on.
+// By what was judged: the payload, all that is on the board, and the reply.
 pub fn act_receive(
-    p: Packet,
-    r: Receipt,
+    v: Receiving,
     s: Saved,
     receive: &mut [u32],
     bytes: &mut [u8],
     notices: &mut [u32],
     packet: &[u8],
 ) -> Answer
-    requires { ⌜ Receivable s (now receive) (now bytes) (length (now notices)) (now packet) p r ⌝ }
-    ensures { λ a. ⌜ Receives p r s (now (receive .entry)) (now (bytes .entry)) (now (notices .entry)) (now (packet .entry)) a (now (receive .exit)) (now (bytes .exit)) (now (notices .exit)) ⌝ }
+    requires { ⌜ Receivable v s (now receive) (now bytes) (length (now notices)) (now packet) ⌝ }
+    ensures { λ a. ⌜ Receives v s (now (receive .entry)) (now (bytes .entry)) (now (notices .entry)) (now (packet .entry)) a
+        (now (receive .exit)) (now (bytes .exit)) (now (notices .exit)) ⌝ }
 {
-    store_payload(bytes, packet, p, r);
-    let done = receive_on_board(p, r, s, receive, notices);
-    let saved = done.saved;
-    Answer {
-        reply: reply(r),
-        interrupts: done.interrupts,
-        saved,
+    match v {
+        Receiving::No(why) => refuse(s, why),
+        Receiving::ComesTo(p, r) => {
+            store_payload(bytes, packet, p, r);
+            let done = receive_on_board(p, r, s, receive, notices);
+            let saved = done.saved;
+            Answer {
+                reply: reply(r),
+                interrupts: done.interrupts,
+                saved,
+            }
+        }
     }
 }
