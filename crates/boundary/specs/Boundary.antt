@@ -13,7 +13,7 @@ use Rattle.rules.specs.declared.Refusal.{Refusal}
 use Rattle.rules.specs.declared.Saved.{Saved}
 use Rattle.rules.specs.Memory.{Machine, machine}
 use Rattle.rules.specs.Replies.{Outcome, refusalNumber, replyNumber, replyValue}
-use Rattle.engine.specs.Lent.{Slice}
+use Rattle.laws.specs.Lent.{Slice}
 
 -- ---- the saved state in words
 

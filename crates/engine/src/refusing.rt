@@ -7,7 +7,7 @@ use rules::Verdict;
 ghost use mathlib.Core.List.{[]};
 ghost use mathlib.Core.Path.{_≡_};
 ghost use Rattle.rules.specs.Calls.{unknownCall};
-ghost use Rattle.engine.specs.Lent.{before, leaves};
+ghost use Rattle.laws.specs.Lent.{before, leaves};
 
 // no-register: "unknown call".
 pub fn unknown(s: Saved, send: &[u32], receive: &[u32], bytes: &[u8], notices: &[u32]) -> Answer

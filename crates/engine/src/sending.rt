@@ -3,7 +3,7 @@ use rules::Answer;
 use rules::Saved;
 ghost use mathlib.Core.Path.{_≡_};
 ghost use Rattle.rules.specs.Calls.{sendCall};
-ghost use Rattle.engine.specs.Lent.{before, fills};
+ghost use Rattle.laws.specs.Lent.{before, fills};
 
 // A send, with the fabric ready or not, into a packet room.
 pub fn send(

@@ -3,7 +3,7 @@ use rules::Answer;
 use rules::Saved;
 ghost use mathlib.Core.Path.{_≡_};
 ghost use Rattle.rules.specs.Calls.{takeCall};
-ghost use Rattle.engine.specs.Lent.{before, fills};
+ghost use Rattle.laws.specs.Lent.{before, fills};
 
 // A take from the list with that number, into a notice room.
 pub fn take(

@@ -4,7 +4,7 @@ use rules::Saved;
 ghost use mathlib.Core.List.{[]};
 ghost use mathlib.Core.Path.{_≡_};
 ghost use Rattle.rules.specs.Calls.{writeCall};
-ghost use Rattle.engine.specs.Lent.{before, leaves};
+ghost use Rattle.laws.specs.Lent.{before, leaves};
 
 // A write of a value to the register with that number.
 pub fn write(

@@ -129,7 +129,8 @@ fn empty_interrupt(q: Queue) -> u32
 // The head block is filled, and the oldest waiting block is its next and the new head.
 fn fill_head(l: ListIndex, n: Notice, s: Saved, receive: &mut [u32], notices: &mut [u32]) -> Step
     requires { ⌜ Postable s (now receive) (length (now notices)) l ⌝ }
-    ensures { λ r. ⌜ Posts (fillHead l n) 4 s (now (receive .entry)) (now (notices .entry)) r (now (receive .exit)) (now (notices .exit)) ⌝ }
+    ensures { λ r. ⌜ Posts (fillHead l n) 4 s (now (receive .entry)) (now (notices .entry)) r
+        (now (receive .exit)) (now (notices .exit)) ⌝ }
 {
     let head = head_word(l);
     let nbqr = s.nbqr;
@@ -149,7 +150,8 @@ fn fill_head(l: ListIndex, n: Notice, s: Saved, receive: &mut [u32], notices: &m
 // A posting on a list that can be posted to.
 fn post(l: ListIndex, n: Notice, s: Saved, receive: &mut [u32], notices: &mut [u32]) -> Step
     requires { ⌜ Postable s (now receive) (length (now notices)) l ⌝ }
-    ensures { λ r. ⌜ Posts (rule.post l n) 6 s (now (receive .entry)) (now (notices .entry)) r (now (receive .exit)) (now (notices .exit)) ⌝ }
+    ensures { λ r. ⌜ Posts (rule.post l n) 6 s (now (receive .entry)) (now (notices .entry)) r
+        (now (receive .exit)) (now (notices .exit)) ⌝ }
 {
     let token = receive[token_word(l)];
     let filled = fill_head(l, n, s, receive, notices);

@@ -17,9 +17,10 @@ use tables::place_word;
 ghost use mathlib.Core.Path.{_≡_};
 ghost use Prim.Native.Nat.{_<_};
 ghost use lib.ListN.{length};
-ghost use Rattle.rules.specs.Memory.{machine, receiveSize, lists};
+ghost use Rattle.rules.specs.Memory.{receiveSize, lists};
 ghost use Rattle.rules.specs.Notices.{placeOf};
 ghost use Rattle.rules.specs.Calls.{judgeTake};
+ghost use Rattle.laws.specs.Lent.{before};
 ghost use Rattle.notices.specs.Steps.{Takeable, TakeableTo, Takes, Acts};
 
 // A list's reader's place.
@@ -40,7 +41,7 @@ pub fn judge_take(
     l: u32,
     room: usize,
 ) -> Taking
-    ensures { λ r. ⌜ r ≡ judgeTake (machine s (now (send .entry)) (now (receive .entry)) (now (bytes .entry)) (now (notices .entry))) l room ⌝ }
+    ensures { λ r. ⌜ r ≡ judgeTake (before s send receive bytes notices) l room ⌝ }
 {
     if let Verdict::No(why) = sound::gate(s, send, receive, bytes.len(), notices.len()) {
         return Taking::No(why);

@@ -9,9 +9,9 @@ use rules::Refusal;
 use rules::Saved;
 use rules::Verdict;
 ghost use mathlib.Core.Path.{_≡_};
-ghost use Rattle.rules.specs.Memory.{machine};
 ghost use Rattle.rules.specs.Receipt.{hasRoomFor};
 ghost use Rattle.rules.specs.Calls.{judgeReceive};
+ghost use Rattle.laws.specs.Lent.{before};
 ghost use Rattle.receiver.specs.Judging.{Answerable};
 
 // Whether a receipt's notice can be posted and its AQR entry pushed; else stalled.
@@ -34,7 +34,7 @@ pub fn judge_receive(
     notices: &[u32],
     packet: &[u8],
 ) -> Receiving
-    ensures { λ r. ⌜ r ≡ judgeReceive (machine s (now (send .entry)) (now (receive .entry)) (now (bytes .entry)) (now (notices .entry))) (now (packet .entry)) ⌝ }
+    ensures { λ r. ⌜ r ≡ judgeReceive (before s send receive bytes notices) (now (packet .entry)) ⌝ }
 {
     if let Verdict::No(why) = sound::gate(s, send, receive, bytes.len(), notices.len()) {
         return Receiving::No(why);

@@ -4,7 +4,7 @@ use rules::Saved;
 ghost use mathlib.Core.Path.{_≡_};
 ghost use lib.ListN.{length};
 ghost use Rattle.rules.specs.Station.{recordSize, kindOf};
-ghost use Rattle.engine.specs.Lent.{before, leaves};
+ghost use Rattle.laws.specs.Lent.{before, leaves};
 ghost use Rattle.records.specs.Records.{PacketTo, Gives};
 
 // The kind, byte 0. "A torn last record is kind 0, length ignored."

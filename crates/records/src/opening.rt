@@ -1,7 +1,7 @@
 // The machine that the station begins with.
 use rules::Queue;
 use rules::Saved;
-ghost use Rattle.engine.specs.Lent.{after};
+ghost use Rattle.laws.specs.Lent.{after};
 ghost use Rattle.records.specs.Records.{Opens};
 
 // "then reset by writing 0x80000000 to PCSR0": over the memories as they are lent.

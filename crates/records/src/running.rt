@@ -5,7 +5,7 @@ ghost use mathlib.Core.Path.{_≡_};
 ghost use Prim.Native.Nat.{_+_, _-_, _≤_, min};
 ghost use lib.ListN.{length};
 ghost use Rattle.rules.specs.Station.{recordSize};
-ghost use Rattle.engine.specs.Lent.{before, after};
+ghost use Rattle.laws.specs.Lent.{before, after};
 ghost use Rattle.lines.specs.Lines.{lineMost};
 ghost use Rattle.records.specs.Records.{Steps, Roomy, Runs, Parted};
 

@@ -35,7 +35,8 @@ pub fn act_write(
     v: u32,
 ) -> Answer
     requires { ⌜ Writable w s (now send) (now receive) ⌝ }
-    ensures { λ r. ⌜ Writes w a v s (now (send .entry)) (now (receive .entry)) (now (notices .entry)) r (now (send .exit)) (now (receive .exit)) (now (notices .exit)) ⌝ }
+    ensures { λ r. ⌜ Writes w a v s (now (send .entry)) (now (receive .entry)) (now (notices .entry)) r
+        (now (send .exit)) (now (receive .exit)) (now (notices .exit)) ⌝ }
 {
     match w {
         Writing::No(why) => refuse(s, why),

@@ -17,11 +17,11 @@ ghost use Prim.Native.Nat.{ℕ};
 ghost use mathlib.Core.Bool.{_||_};
 ghost use mathlib.Core.List.{List};
 ghost use lib.ListN.{length};
-ghost use Rattle.rules.specs.Memory.{machine};
 ghost use Rattle.rules.specs.Registers.{decode, reach};
 ghost use Rattle.rules.specs.Sound.{soundOk};
 ghost use Rattle.rules.specs.Writes.{judgeRegister};
 ghost use Rattle.rules.specs.Calls.{isReset, judgeWrite};
+ghost use Rattle.laws.specs.Lent.{before};
 ghost use Rattle.laws.specs.Sound.{Sized};
 ghost use Rattle.registers.specs.Writing.{Rams, Judges};
 
@@ -158,7 +158,7 @@ pub fn judge_write(
     a: u32,
     v: u32,
 ) -> Writing
-    ensures { λ r. ⌜ r ≡ judgeWrite (machine s (now (send .entry)) (now (receive .entry)) (now (bytes .entry)) (now (notices .entry))) a v ⌝ }
+    ensures { λ r. ⌜ r ≡ judgeWrite (before s send receive bytes notices) a v ⌝ }
 {
     if !sizes_ok(send.len(), receive.len(), bytes.len(), notices.len()) {
         return Writing::No(Refusal::Sizes);

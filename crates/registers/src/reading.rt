@@ -17,10 +17,10 @@ ghost use mathlib.Core.Path.{_≡_};
 ghost use Prim.Native.Nat.{_≤_, _<_};
 ghost use lib.ListN.{length, getD};
 ghost use Rattle.ground.specs.Field.{bit};
-ghost use Rattle.rules.specs.Memory.{machine};
 ghost use Rattle.rules.specs.Registers.{decode, shownItself};
 ghost use Rattle.rules.specs.Registers as rule;
 ghost use Rattle.rules.specs.Calls.{judgeRead};
+ghost use Rattle.laws.specs.Lent.{before};
 ghost use Rattle.registers.specs.Reading.{Showable, InsideReceive, Readable, SlotShows, Answers, Reads};
 
 // What a read of a register number reaches, by the table's rows in their order.
@@ -32,7 +32,7 @@ pub fn judge_read(
     notices: &[u32],
     a: u32,
 ) -> Reach
-    ensures { λ r. ⌜ r ≡ judgeRead (machine s (now (send .entry)) (now (receive .entry)) (now (bytes .entry)) (now (notices .entry))) (decode a) ⌝ }
+    ensures { λ r. ⌜ r ≡ judgeRead (before s send receive bytes notices) (decode a) ⌝ }
 {
     if let Verdict::No(why) = sound::gate(s, send, receive, bytes.len(), notices.len()) {
         return Reach::No(why);

@@ -69,7 +69,8 @@ fn reset_saved(w: u32) -> Saved
 // The whole reset, by the word written to PCSR0.
 pub(crate) fn reset(v: u32, send: &mut [u32], receive: &mut [u32], notices: &mut [u32]) -> Saved
     requires { ⌜ Rams (length (now send)) (length (now receive)) ⌝ }
-    ensures { λ r. ⌜ Resets v (now (send .entry)) (now (receive .entry)) (now (notices .entry)) r (now (send .exit)) (now (receive .exit)) (now (notices .exit)) ⌝ }
+    ensures { λ r. ⌜ Resets v (now (send .entry)) (now (receive .entry)) (now (notices .entry)) r
+        (now (send .exit)) (now (receive .exit)) (now (notices .exit)) ⌝ }
 {
     clear_descriptors(send);
     clear(receive);

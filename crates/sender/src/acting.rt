@@ -53,7 +53,8 @@ fn act_sends(
     room: &mut [u8],
 ) -> Answer
     requires { ⌜ SendableFrom i s (now send) (now receive) (length (now bytes)) (length (now notices)) (length (now room)) ⌝ }
-    ensures { λ r. ⌜ Acts (Sending.Sends i) s (now (send .entry)) (now (receive .entry)) (now (bytes .entry)) (now (notices .entry)) (now (room .entry)) r (now (send .exit)) (now (receive .exit)) (now (notices .exit)) (now (room .exit)) ⌝ }
+    ensures { λ r. ⌜ Acts (Sending.Sends i) s (now (send .entry)) (now (receive .entry)) (now (bytes .entry)) (now (notices .entry))
+        (now (room .entry)) r (now (send .exit)) (now (receive .exit)) (now (notices .exit)) (now (room .exit)) ⌝ }
 {
     let sent = send_packet(i, s.pcsr0 % 0x1_0000, send, bytes, room);
     let posting = sent.posting;
@@ -90,7 +91,8 @@ pub fn act_send(
     room: &mut [u8],
 ) -> Answer
     requires { ⌜ Sendable v s (now send) (now receive) (length (now bytes)) (length (now notices)) (length (now room)) ⌝ }
-    ensures { λ r. ⌜ Acts v s (now (send .entry)) (now (receive .entry)) (now (bytes .entry)) (now (notices .entry)) (now (room .entry)) r (now (send .exit)) (now (receive .exit)) (now (notices .exit)) (now (room .exit)) ⌝ }
+    ensures { λ r. ⌜ Acts v s (now (send .entry)) (now (receive .entry)) (now (bytes .entry)) (now (notices .entry))
+        (now (room .entry)) r (now (send .exit)) (now (receive .exit)) (now (notices .exit)) (now (room .exit)) ⌝ }
 {
     match v {
         Sending::No(why) => refuse(s, why),

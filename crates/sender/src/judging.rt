@@ -6,8 +6,8 @@ use rules::Saved;
 use rules::Sending;
 use rules::Verdict;
 ghost use mathlib.Core.Path.{_≡_};
-ghost use Rattle.rules.specs.Memory.{machine};
 ghost use Rattle.rules.specs.Calls.{sendingOf, judgeSend};
+ghost use Rattle.laws.specs.Lent.{before};
 
 // stalled where none is ready; else fabric decides between sending and waiting.
 fn sending_of(ready: bool, found: Found) -> Sending
@@ -33,7 +33,7 @@ pub fn judge_send(
     ready: bool,
     room: usize,
 ) -> Sending
-    ensures { λ r. ⌜ r ≡ judgeSend (machine s (now (send .entry)) (now (receive .entry)) (now (bytes .entry)) (now (notices .entry))) ready room ⌝ }
+    ensures { λ r. ⌜ r ≡ judgeSend (before s send receive bytes notices) ready room ⌝ }
 {
     if let Verdict::No(why) = sound::gate(s, send, receive, bytes.len(), notices.len()) {
         return Sending::No(why);

@@ -11,7 +11,7 @@ use Rattle.ground.specs.Choice.{pick}
 use Rattle.ground.specs.Lists.{part}
 use Rattle.rules.specs.Memory.{Machine, machine, sendSize, receiveSize, dataMost, noticesMost}
 use Rattle.rules.specs.Station.{recordSize, firstMachine, linesFrom, station}
-use Rattle.engine.specs.Lent.{Slice}
+use Rattle.laws.specs.Lent.{Slice}
 use Rattle.boundary.specs.Boundary.{savedSize, savedOf}
 use Rattle.lines.specs.Lines.{lineMost}
 use Rattle.records.specs.Records.{machineAfter}

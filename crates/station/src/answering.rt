@@ -3,7 +3,7 @@ use rules::Saved;
 ghost use mathlib.Core.Path.{_≡_};
 ghost use Prim.Native.Nat.{_-_};
 ghost use Rattle.ground.specs.Lists.{part};
-ghost use Rattle.engine.specs.Lent.{before};
+ghost use Rattle.laws.specs.Lent.{before};
 ghost use Rattle.station.specs.Turns.{answeredTo, handIn, waitingIn, Begins, Filled, Answers};
 
 // So many of the bytes at hand are answered: the whole records, and at the end of the input a torn one too.

@@ -15,7 +15,8 @@ ghost use Rattle.rules.specs.Station.{recordSize};
 // Reads what is at hand behind the room's first record, where bytes may wait, and says how many bytes came: 0 at the end of the input.
 fn read_on(input: &mut [u8]) -> usize
     requires { ⌜ recordSize ≤ length (now input) ⌝ }
-    ensures { λ r. ⌜ (recordSize + r ≤ length (now (input .exit))) × (take recordSize (now (input .exit)) ≡ take recordSize (now (input .entry))) ⌝ }
+    ensures { λ r. ⌜ recordSize + r ≤ length (now (input .exit)) ⌝ }
+    ensures { λ r. ⌜ take recordSize (now (input .exit)) ≡ take recordSize (now (input .entry)) ⌝ }
 {
     let behind = &mut input[192..];
     let got = libc::read(STDIN_FILENO, behind);

@@ -39,7 +39,8 @@ pub(crate) fn turn(
     rest: &mut [u8],
     out: &mut [u8],
 ) -> usize
-    requires { ⌜ Turnable (now saved) (now send) (now receive) (now bytes) (now notices) (now input) (now out) (now rest) (now kept) (now count) n ⌝ }
+    requires { ⌜ Turnable (now saved) (now send) (now receive) (now bytes) (now notices) (now input)
+        (now out) (now rest) (now kept) (now count) n ⌝ }
     ensures { λ r. ⌜ now (kept .exit) < recordSize ⌝ }
     ensures { λ r. ⌜ Turned (heldBefore saved send receive bytes notices input kept) (now (count .entry)) (cameIn (now (input .entry)) n) r
         (heldAfter saved send receive bytes notices input kept) (now (count .exit)) (now (out .exit)) ⌝ }
