@@ -71,9 +71,18 @@ main-spec =
     omega (arith, turned .ensures .1 .counted, length-part recordSize (came .result) (came .last .0) (came .ensures .0), c .if2 .left, c .before .before .before .before .before .before .before .before .before .before .before .before .before .before .before .before .before .before .before .before .before .before .before .before .before .before .loop-test .taken))
     (λ c.
     let turned = c .before .before .before .before .before .before .before .before .before .before .before .before .turn in
-    let came = c .before .before .before .before .before .before .before .before .before .before .before .before .before .before .before .before .before .before .before .before .before .before .before .before .read-on in
-    (search needs, search needs, search needs, search needs, search needs, search needs, search needs, search needs, search needs,
-    turned .ensures .1 .goes-on (omega (arith, length-part recordSize (came .result) (came .last .0) (came .ensures .0), c .if2 .left))))
+    let came = c .before .before .before .before .before .before .before .before .before .before .before .before .before .before .before .before .before .before .before .before .before .before .before .before .read-on in (
+      search needs,
+      search needs,
+      search needs,
+      search needs,
+      search needs,
+      search needs,
+      search needs,
+      search needs,
+      search needs,
+      turned .ensures .1 .goes-on (omega (arith, length-part recordSize (came .result) (came .last .0) (came .ensures .0), c .if2 .left)),
+    ))
     (λ c. search needs)
     (λ c. search needs)
     (λ c. search needs))

@@ -24,7 +24,8 @@ turn-spec =
     let stored = c .before .before .before in
     let answered = stored .before .before .before .before .before .before .before .before .before .before .before .before .before .before .before .before .before in
     let loaded = answered .before .before .before .before .before .before .before .before .before in
-    let start = loaded .before .before .before .before .before .before .before .before .before .before in
-    (answered .answer .ensures .less,
-    in-memories (start .args .saved .now) (start .args .input .now) (start .args .kept .now) (start .args .count .now) (start .args .n)
-    (start .pre) (loaded .load .ensures) (answered .answer .ensures) (stored .store .ensures))))
+    let start = loaded .before .before .before .before .before .before .before .before .before .before in (
+      answered .answer .ensures .less,
+      in-memories (start .args .saved .now) (start .args .input .now) (start .args .kept .now) (start .args .count .now) (start .args .n)
+          (start .pre) (loaded .load .ensures) (answered .answer .ensures) (stored .store .ensures),
+    )))
