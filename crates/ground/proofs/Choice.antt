@@ -53,12 +53,6 @@ go-on other {rest = rest} p e = e ∙ sym (need-yes other rest p)
 pub stop : {A : Type 0} {b : Bool} {other : A} (rest : A) {r : A} → b ≡ false → r ≡ other → r ≡ need b other rest
 stop {other = other} rest p e = e ∙ sym (need-no other rest p)
 
--- Where the outcome is not that of a failure, the test held and the rest decided.
-pub went : {A : Type 0} (b : Bool) {other rest v : A} → (other ≡ v → ⊥) → need b other rest ≡ v → (b ≡ true) × (rest ≡ v)
-unfolding need
-went true n e = (refl, e)
-went false n e = absurd (n e)
-
 -- What holds of both outcomes, each where the test says so, holds of the one decided on.
 pub need-holds : {A : Type 0} (P : A → Type 0) (b : Bool) {other rest : A} → (b ≡ false → P other) → (b ≡ true → P rest) → P (need b other rest)
 unfolding need

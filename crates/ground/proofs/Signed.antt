@@ -42,14 +42,6 @@ pub signed-high : (w : ℕ) → 2 ^ 31 ≤ w → signed w ≡ negsuc (2 ^ 32 - s
 unfolding signed
 signed-high w h = pick-no (pos w) (negsuc (2 ^ 32 - suc w)) (le-ltb w (2 ^ 31) h)
 
--- The word of the number of a word is the word.
-pub unsigned-signed : (w : ℕ) → w < 2 ^ 32 → unsigned (signed w) ≡ w
-unsigned-signed w h = unsigned-ofZ (signed w) ∙ ap (ofZ w32) (signed-toZ w) ∙ ofZ-toZ w32 w (record { fits = h })
-
--- The number of the word of a number is the number.
-pub signed-unsigned : (z : ℤ) → SFits w32 z → signed (unsigned z) ≡ z
-signed-unsigned z f = signed-toZ (unsigned z) ∙ ap (toZ w32) (unsigned-ofZ z) ∙ toZ-ofZ w32 z f
-
 -- The number of a word fits 32 bits.
 pub int-fits : (w : ℕ) → w < 2 ^ 32 → SFits w32 (signed w)
 int-fits w h = rw (signed-toZ w) (toZ-fits w32 w (record { fits = h }))

@@ -190,8 +190,8 @@ module _ (p : Packet) (r : Receipt) (s : Saved) (receive receive₂ : List ℕ) 
 
 -- What acting asks of what was judged.
 module _ {s : Saved} {receive bytes : List ℕ} {n : ℕ} {packet : List ℕ} {v : Receiving} (a : Receivable v s receive bytes n packet) {p : Packet} {r : Receipt} where
-  pub land-asks : v ≡ Receiving.ComesTo p r → Landable bytes packet p r
-  land-asks e = a .landable p r e
+  pub payload-asks : v ≡ Receiving.ComesTo p r → Landable bytes packet p r
+  payload-asks e = a .landable p r e
 
   pub board-asks : v ≡ Receiving.ComesTo p r → Boardable p r s receive n
   board-asks e = a .boardable p r e

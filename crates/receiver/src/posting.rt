@@ -14,13 +14,14 @@ use rules::SlotIndex;
 ghost use mathlib.Core.Path.{_≡_};
 ghost use Prim.Native.Nat.{_<_};
 ghost use Rattle.rules.specs.declared.Receipt.{Receipt};
+ghost use Rattle.rules.specs.Memory.{slotsMost};
 ghost use Rattle.rules.specs.Words.{srcNode, slotAndSource};
 ghost use Rattle.rules.specs.Receipt.{messageNotice, ackNotice, faultNotice, receiptPosting, needsAqr};
 ghost use Rattle.receiver.specs.Acting.{Known, Meeting, Notable};
 
 // Word 0 of a message's and of an ack's notice: slot and src_node.
 fn slot_and_source(i: SlotIndex, h: Header) -> u32
-    requires { ⌜ i .0 < 64 ⌝ }
+    requires { ⌜ i .0 < slotsMost ⌝ }
     ensures { λ r. ⌜ r ≡ slotAndSource (i .0) (srcNode (h .address1)) ⌝ }
 {
     let src_node = h.address1 / 16 % 0x1000;
@@ -46,7 +47,7 @@ fn message_notice(i: SlotIndex, h: Header, v: Slot) -> Notice
 
 // An ack's notice: offset and word 3 are the packet's own.
 fn ack_notice(i: SlotIndex, h: Header) -> Notice
-    requires { ⌜ i .0 < 64 ⌝ }
+    requires { ⌜ i .0 < slotsMost ⌝ }
     ensures { λ r. ⌜ r ≡ ackNotice i h ⌝ }
 {
     let incarnation = h.control0 / 0x100_0000 % 16;

@@ -8,6 +8,11 @@ use rules::Refusal;
 use rules::Register;
 use rules::Saved;
 use rules::Writing;
+use rules::sizes::PCSR0_NUMBER;
+use rules::sizes::QUEUE_SIZE;
+use rules::sizes::RECEIVE_SIZE;
+use rules::sizes::SEND_SIZE;
+use rules::sizes::SLOTS_MOST;
 use sound::pcsr0_ok;
 use sound::pointer_ok;
 use sound::sizes_ok;
@@ -43,7 +48,7 @@ fn judge_pcsr0(v: u32) -> Writing
 fn judge_slot_count(v: u32) -> Writing
     ensures { λ r. ⌜ ((s : Saved) (notices : List ℕ) → r ≡ judgeRegister s notices Register.SlotCount v) ⌝ }
 {
-    if 64 < v {
+    if SLOTS_MOST < v {
         return Writing::No(Refusal::BadValue);
     }
     Writing::Sets(Number::SlotCount)
@@ -57,7 +62,7 @@ fn judge_nbqr(s: Saved, notices: &[u32], v: u32) -> Writing
         return Writing::No(Refusal::BadValue);
     }
     let nbqr = s.nbqr;
-    if 256 <= nbqr.length {
+    if QUEUE_SIZE <= nbqr.length {
         return Writing::No(Refusal::Full);
     }
     Writing::Gives(BlockAddress(v))
@@ -67,7 +72,7 @@ fn judge_nbqr(s: Saved, notices: &[u32], v: u32) -> Writing
 fn judge_send_pointer(v: u32) -> Writing
     ensures { λ r. ⌜ ((s : Saved) (notices : List ℕ) → r ≡ judgeRegister s notices Register.SendPointer v) ⌝ }
 {
-    if !pointer_ok(1024, v) {
+    if !pointer_ok(SEND_SIZE, v) {
         return Writing::No(Refusal::BadValue);
     }
     Writing::Sets(Number::SendPointer)
@@ -77,7 +82,7 @@ fn judge_send_pointer(v: u32) -> Writing
 fn judge_receive_pointer(v: u32) -> Writing
     ensures { λ r. ⌜ ((s : Saved) (notices : List ℕ) → r ≡ judgeRegister s notices Register.ReceivePointer v) ⌝ }
 {
-    if !pointer_ok(2048, v) {
+    if !pointer_ok(RECEIVE_SIZE, v) {
         return Writing::No(Refusal::BadValue);
     }
     Writing::Sets(Number::ReceivePointer)
@@ -145,7 +150,7 @@ fn sound_or_reset(
     ensures { λ r. ⌜ r ≡ (isReset a v || soundOk s (now (send .entry)) (now (receive .entry)) datalength noticelength) ⌝ }
 {
     let reset = v / 0x8000_0000 % 2 == 1;
-    ((a == 0) & reset) | sound_ok(s, send, receive, datalength, noticelength)
+    ((a == PCSR0_NUMBER) & reset) | sound_ok(s, send, receive, datalength, noticelength)
 }
 
 // What a write of v to register number a does, or why it is refused.

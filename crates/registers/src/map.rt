@@ -4,6 +4,8 @@ use rules::Reach;
 use rules::Refusal;
 use rules::Register;
 use rules::Saved;
+use rules::sizes::RECEIVE_SIZE;
+use rules::sizes::SEND_SIZE;
 ghost use mathlib.Core.Path.{_≡_};
 ghost use Prim.Native.Nat.{_/_};
 ghost use Rattle.rules.specs.Registers as rule;
@@ -62,6 +64,11 @@ pub(crate) fn reach(s: Saved, r: Mapped) -> Reach
     }
 }
 
+// A pointer runs over its RAM's bytes.
+const SEND_BYTES: u32 = 4 * SEND_SIZE as u32;
+
+const RECEIVE_BYTES: u32 = 4 * RECEIVE_SIZE as u32;
+
 // The saved state after an access that is carried out: a step moves its pointer on, to 0 after the last word.
 pub(crate) fn stepped(r: Mapped, s: Saved) -> Saved
     ensures { λ t. ⌜ t ≡ rule.stepped r s ⌝ }
@@ -72,12 +79,12 @@ pub(crate) fn stepped(r: Mapped, s: Saved) -> Saved
         Mapped::Single(_) => s,
         Mapped::SendWord => s,
         Mapped::SendStep => {
-            saved.sendpointer = (s.sendpointer % 4096 + 4) % 4096;
+            saved.sendpointer = (s.sendpointer % SEND_BYTES + 4) % SEND_BYTES;
             saved
         }
         Mapped::ReceiveWord => s,
         Mapped::ReceiveStep => {
-            saved.receivepointer = (s.receivepointer % 8192 + 4) % 8192;
+            saved.receivepointer = (s.receivepointer % RECEIVE_BYTES + 4) % RECEIVE_BYTES;
             saved
         }
         Mapped::DescriptorWord(_) => s,

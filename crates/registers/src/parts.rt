@@ -11,6 +11,12 @@ use rules::SendPart;
 use rules::SendStore;
 use rules::SlotIndex;
 use rules::Writing;
+use rules::sizes::CONTROL1_WORD;
+use rules::sizes::DESCRIPTOR_SIZE;
+use rules::sizes::DESCRIPTORS;
+use rules::sizes::LISTS_FROM;
+use rules::sizes::NQR_FROM;
+use rules::sizes::SLOT_SIZE;
 use tables::descriptor_at;
 use tables::go_rule;
 use tables::head_word;
@@ -21,7 +27,7 @@ ghost use Prim.Native.Nat.{ℕ, _<_};
 ghost use mathlib.Core.Bool.{false};
 ghost use mathlib.Core.List.{List};
 ghost use lib.ListN.{length};
-ghost use Rattle.rules.specs.Memory.{sendPart, receivePart, isFreeBlock};
+ghost use Rattle.rules.specs.Memory.{sendSize, receiveSize, descriptors, lists, sendPart, receivePart, isFreeBlock};
 ghost use Rattle.rules.specs.Sending.{descriptorAt};
 ghost use Rattle.rules.specs.Writes.{descriptorWordFixed, judgeSendWord, judgeReceiveWord};
 
@@ -35,12 +41,15 @@ pub(crate) fn is_free_block(notices: &[u32], a: u32) -> bool
     next_of(notices, BlockAddress(a)) == 0
 }
 
+// Where the descriptors end, and DIO begins.
+const DESCRIPTOR_WORDS: u32 = DESCRIPTORS * DESCRIPTOR_SIZE;
+
 // What word i of Send RAM is.
 fn send_part(i: u32) -> SendPart
     ensures { λ r. ⌜ r ≡ sendPart i ⌝ }
 {
-    if i < 64 {
-        return SendPart::OfDescriptor(DescriptorIndex(i / 16), i % 16);
+    if i < DESCRIPTOR_WORDS {
+        return SendPart::OfDescriptor(DescriptorIndex(i / DESCRIPTOR_SIZE), i % DESCRIPTOR_SIZE);
     }
     SendPart::Direct(i)
 }
@@ -49,19 +58,19 @@ fn send_part(i: u32) -> SendPart
 fn receive_part(i: u32) -> ReceivePart
     ensures { λ r. ⌜ r ≡ receivePart i ⌝ }
 {
-    if i < 1024 {
-        return ReceivePart::OfSlot(SlotIndex(i / 16), i % 16);
+    if i < LISTS_FROM {
+        return ReceivePart::OfSlot(SlotIndex(i / SLOT_SIZE), i % SLOT_SIZE);
     }
-    if 1152 <= i {
+    if NQR_FROM as u32 <= i {
         return ReceivePart::Fixed;
     }
     if i % 2 == 0 {
-        return ReceivePart::Head(ListIndex((i - 1024) / 2));
+        return ReceivePart::Head(ListIndex((i - LISTS_FROM) / 2));
     }
-    ReceivePart::Token(ListIndex((i - 1024) / 2))
+    ReceivePart::Token(ListIndex((i - LISTS_FROM) / 2))
 }
 
-// A descriptor's word that is not read-only, by the descriptor's words; control1 is word 5.
+// A descriptor's word that is not read-only, by the descriptor's words.
 fn judge_open_word(
     words: Descriptor,
     datalength: usize,
@@ -74,8 +83,8 @@ fn judge_open_word(
 {
     let go = v / 0x1000_0000 % 2 == 1;
     let msg_size = v % 0x100_0000;
-    let starts = (k == 5) & go;
-    let stops = (k == 5) & !go;
+    let starts = (k == CONTROL1_WORD) & go;
+    let stops = (k == CONTROL1_WORD) & !go;
     // "Writes to an active descriptor answer active, except control1 with go 0"
     if is_active(words) & !stops {
         return Writing::No(Refusal::Active);
@@ -98,7 +107,7 @@ fn judge_descriptor_word(
     k: u32,
     v: u32,
 ) -> Writing
-    requires { ⌜ (d .0 < 4) × (length (now send) ≡ 1024) ⌝ }
+    requires { ⌜ (d .0 < descriptors) × (length (now send) ≡ sendSize) ⌝ }
     ensures { λ r. ⌜ r ≡ judgeSendWord (now (send .entry)) datalength (SendPart.OfDescriptor d k) v ⌝ }
 {
     if (k == 4) | (k == 6) | (k == 7) | (12 <= k) {
@@ -110,7 +119,7 @@ fn judge_descriptor_word(
 
 // Word i of Send RAM.
 pub(crate) fn judge_send_word(send: &[u32], datalength: usize, i: u32, v: u32) -> Writing
-    requires { ⌜ length (now send) ≡ 1024 ⌝ }
+    requires { ⌜ length (now send) ≡ sendSize ⌝ }
     ensures { λ r. ⌜ r ≡ judgeSendWord (now (send .entry)) datalength (sendPart i) v ⌝ }
 {
     let part = send_part(i);
@@ -135,7 +144,7 @@ fn judge_slot_word(i: SlotIndex, k: u32, v: u32) -> Writing
 
 // A list's head.
 fn judge_head(receive: &[u32], notices: &[u32], l: ListIndex, v: u32) -> Writing
-    requires { ⌜ (l .0 < 64) × (length (now receive) ≡ 2048) ⌝ }
+    requires { ⌜ (l .0 < lists) × (length (now receive) ≡ receiveSize) ⌝ }
     ensures { λ r. ⌜ r ≡ judgeReceiveWord (now (receive .entry)) (now (notices .entry)) (ReceivePart.Head l) v ⌝ }
 {
     let head = receive[head_word(l)];
@@ -162,7 +171,7 @@ fn judge_token(l: ListIndex, v: u32) -> Writing
 
 // Word i of Receive RAM.
 pub(crate) fn judge_receive_word(receive: &[u32], notices: &[u32], i: u32, v: u32) -> Writing
-    requires { ⌜ length (now receive) ≡ 2048 ⌝ }
+    requires { ⌜ length (now receive) ≡ receiveSize ⌝ }
     ensures { λ r. ⌜ r ≡ judgeReceiveWord (now (receive .entry)) (now (notices .entry)) (receivePart i) v ⌝ }
 {
     let part = receive_part(i);

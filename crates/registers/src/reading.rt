@@ -1,10 +1,8 @@
 // The read: what it reaches, or why it is refused; and the word that it shows.
 use crate::map;
 use replies::refuse;
-use rules::AQR_FROM;
 use rules::Answer;
 use rules::Mapped;
-use rules::NQR_FROM;
 use rules::Reach;
 use rules::Register;
 use rules::Reply;
@@ -13,10 +11,16 @@ use rules::Shown;
 use rules::Slot;
 use rules::SlotIndex;
 use rules::Verdict;
+use rules::sizes::AQR_FROM;
+use rules::sizes::LISTS_FROM;
+use rules::sizes::NQR_FROM;
+use rules::sizes::QUEUE_SIZE;
+use rules::sizes::SLOT_SIZE;
 ghost use mathlib.Core.Path.{_≡_};
 ghost use Prim.Native.Nat.{_≤_, _<_};
 ghost use lib.ListN.{length, getD};
 ghost use Rattle.ground.specs.Field.{bit};
+ghost use Rattle.rules.specs.Memory.{slotSize};
 ghost use Rattle.rules.specs.Registers.{decode, shownItself};
 ghost use Rattle.rules.specs.Registers as rule;
 ghost use Rattle.rules.specs.Calls.{judgeRead};
@@ -54,7 +58,7 @@ fn pcsr1(s: Saved) -> u32
 {
     let nbqr = s.nbqr;
     let empty = bit_of(nbqr.length == 0);
-    let full = bit_of(!(nbqr.length < 256));
+    let full = bit_of(!(nbqr.length < QUEUE_SIZE));
     0x8000_0000
         + s.inthi * 0x4000_0000
         + s.intlo * 0x2000_0000
@@ -125,7 +129,7 @@ fn shown_itself(s: Saved, receive: &[u32], x: Register) -> Shown
 
 // Word k of a slot.
 fn slot_word(v: Slot, k: u32) -> u32
-    requires { ⌜ k < 16 ⌝ }
+    requires { ⌜ k < slotSize ⌝ }
     ensures { λ r. ⌜ SlotShows v k r ⌝ }
 {
     let m = v.metadata;
@@ -154,9 +158,9 @@ fn receive_word(receive: &[u32], i: u32) -> u32
     requires { ⌜ InsideReceive (now receive) i ⌝ }
     ensures { λ r. ⌜ r ≡ getD (now (receive .entry)) i 0 ⌝ }
 {
-    if i < 1024 {
-        let slot = tables::slot_at(receive, SlotIndex(i / 16));
-        return slot_word(slot, i % 16);
+    if i < LISTS_FROM {
+        let slot = tables::slot_at(receive, SlotIndex(i / SLOT_SIZE));
+        return slot_word(slot, i % SLOT_SIZE);
     }
     receive[i as usize]
 }

@@ -2,12 +2,14 @@
 use rules::DescriptorIndex;
 use rules::Queue;
 use rules::Saved;
+use rules::sizes::DESCRIPTOR_SIZE;
+use rules::sizes::DESCRIPTORS;
 ghost use mathlib.Core.Path.{_≡_};
 ghost use Prim.Native.Nat.{_<_};
 ghost use lib.ListN.{length, replicate};
 ghost use lib.Seq.{sets};
 ghost use Rattle.ground.specs.Lists.{over};
-ghost use Rattle.rules.specs.Memory.{descriptorFirst};
+ghost use Rattle.rules.specs.Memory.{sendSize, descriptors, descriptorFirst};
 ghost use Rattle.rules.specs.Saved.{resetSaved};
 ghost use Rattle.rules.specs.Writes.{clearDescriptor, clearDescriptors};
 ghost use Rattle.registers.specs.Writing.{Rams, Resets};
@@ -25,19 +27,19 @@ fn clear(ram: &mut [u32])
 
 // A descriptor's words: status2 is done, the others are 0.
 fn clear_descriptor(send: &mut [u32], d: DescriptorIndex)
-    requires { ⌜ (d .0 < 4) × (length (now send) ≡ 1024) ⌝ }
+    requires { ⌜ (d .0 < descriptors) × (length (now send) ≡ sendSize) ⌝ }
     ensures { λ _. ⌜ now (send .exit) ≡ sets (now (send .entry)) (descriptorFirst d) clearDescriptor ⌝ }
 {
     let row = [0, 0, 0, 0, 0, 0, 0x2000_0000, 0, 0, 0, 0, 0, 0, 0, 0, 0];
-    words::store(send, 16 * d.0 as usize, &row);
+    words::store(send, (DESCRIPTOR_SIZE * d.0) as usize, &row);
 }
 
 // All four descriptors.
 fn clear_descriptors(send: &mut [u32])
-    requires { ⌜ length (now send) ≡ 1024 ⌝ }
+    requires { ⌜ length (now send) ≡ sendSize ⌝ }
     ensures { λ _. ⌜ now (send .exit) ≡ over clearDescriptors (now (send .entry)) ⌝ }
 {
-    for d in 0u32..4 {
+    for d in 0u32..DESCRIPTORS {
         clear_descriptor(send, DescriptorIndex(d));
     }
 }

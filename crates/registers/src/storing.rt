@@ -10,6 +10,7 @@ use rules::Saved;
 use rules::SendStore;
 use rules::Slot;
 use rules::SlotIndex;
+use rules::sizes::DESCRIPTOR_SIZE;
 use tables::descriptor_at;
 use tables::head_word;
 use tables::place_word;
@@ -21,6 +22,7 @@ ghost use mathlib.Core.Path.{_≡_};
 ghost use Prim.Native.Nat.{_<_};
 ghost use lib.ListN.{length};
 ghost use Rattle.ground.specs.Choice.{pick};
+ghost use Rattle.rules.specs.Memory.{sendSize, receiveSize, descriptors, slotsMost, lists};
 ghost use Rattle.rules.specs.Sending as sending;
 ghost use Rattle.rules.specs.Writes.{bitsCleared, numberSet, sendStored, receiveStored};
 ghost use Rattle.laws.specs.Writing.{PlainWord};
@@ -90,7 +92,7 @@ fn started(v: u32, d: Descriptor) -> Descriptor
 
 // A descriptor starts.
 fn start(d: DescriptorIndex, v: u32, send: &mut [u32])
-    requires { ⌜ (d .0 < 4) × (length (now send) ≡ 1024) ⌝ }
+    requires { ⌜ (d .0 < descriptors) × (length (now send) ≡ sendSize) ⌝ }
     ensures { λ _. ⌜ now (send .exit) ≡ sendStored (SendStore.Start d) v (now (send .entry)) ⌝ }
 {
     let words = descriptor_at(send, d);
@@ -107,7 +109,7 @@ pub(crate) fn store_send(x: SendStore, v: u32, send: &mut [u32])
             send[i as usize] = v;
         }
         SendStore::Word(d, k) => {
-            send[16 * d.0 as usize + k as usize] = v;
+            send[DESCRIPTOR_SIZE as usize * d.0 as usize + k as usize] = v;
         }
         SendStore::Start(d) => start(d, v, send),
     }
@@ -155,7 +157,7 @@ fn with_word2(x: Slot, v: u32) -> Slot
 
 // A slot's word 0, 1 or 6.
 fn store_slot_word(i: SlotIndex, k: u32, v: u32, receive: &mut [u32])
-    requires { ⌜ (i .0 < 64) × PlainWord k × (length (now receive) ≡ 2048) ⌝ }
+    requires { ⌜ (i .0 < slotsMost) × PlainWord k × (length (now receive) ≡ receiveSize) ⌝ }
     ensures { λ _. ⌜ now (receive .exit) ≡ receiveStored (ReceiveStore.SlotWord i k) v (now (receive .entry)) ⌝ }
 {
     let slot = slot_at(receive, i);
@@ -164,7 +166,7 @@ fn store_slot_word(i: SlotIndex, k: u32, v: u32, receive: &mut [u32])
 
 // A slot's word 2.
 fn store_slot_word2(i: SlotIndex, v: u32, receive: &mut [u32])
-    requires { ⌜ (i .0 < 64) × (length (now receive) ≡ 2048) ⌝ }
+    requires { ⌜ (i .0 < slotsMost) × (length (now receive) ≡ receiveSize) ⌝ }
     ensures { λ _. ⌜ now (receive .exit) ≡ receiveStored (ReceiveStore.SlotWord2 i) v (now (receive .entry)) ⌝ }
 {
     let slot = slot_at(receive, i);
@@ -173,7 +175,7 @@ fn store_slot_word2(i: SlotIndex, v: u32, receive: &mut [u32])
 
 // A list's first block: its head, and the reader's place too.
 fn store_first_block(l: ListIndex, b: BlockAddress, v: u32, receive: &mut [u32])
-    requires { ⌜ (l .0 < 64) × (length (now receive) ≡ 2048) ⌝ }
+    requires { ⌜ (l .0 < lists) × (length (now receive) ≡ receiveSize) ⌝ }
     ensures { λ _. ⌜ now (receive .exit) ≡ receiveStored (ReceiveStore.FirstBlock l b) v (now (receive .entry)) ⌝ }
 {
     receive[head_word(l)] = b.0;
@@ -182,7 +184,7 @@ fn store_first_block(l: ListIndex, b: BlockAddress, v: u32, receive: &mut [u32])
 
 // A list's token.
 fn store_token(l: ListIndex, v: u32, receive: &mut [u32])
-    requires { ⌜ (l .0 < 64) × (length (now receive) ≡ 2048) ⌝ }
+    requires { ⌜ (l .0 < lists) × (length (now receive) ≡ receiveSize) ⌝ }
     ensures { λ _. ⌜ now (receive .exit) ≡ receiveStored (ReceiveStore.ListToken l) v (now (receive .entry)) ⌝ }
 {
     receive[token_word(l)] = v;

@@ -7,10 +7,13 @@ use rules::Metadata;
 use rules::Notice;
 use rules::Posting;
 use rules::Saved;
+use rules::sizes::DESCRIPTORS;
+use rules::sizes::PAYLOAD_MOST;
 use tables::descriptor_at;
 use tables::is_active;
 ghost use mathlib.Core.Path.{_≡_};
 ghost use lib.ListN.{length};
+ghost use Rattle.rules.specs.Memory.{sendSize};
 ghost use Rattle.rules.specs.Sending.{descriptorAt, isLast, sendPosting, isReady, nextSender, noneActive};
 ghost use Rattle.sender.specs.Steps.{Payload, Askable, Choosable};
 
@@ -21,10 +24,10 @@ pub(crate) fn next_payload(d: Descriptor) -> u32
     let control_pkt = d.control1 / 0x4000_0000 % 2 == 1;
     if control_pkt {
         0
-    } else if d.bytestogo < 128 {
+    } else if d.bytestogo < PAYLOAD_MOST {
         d.bytestogo
     } else {
-        128
+        PAYLOAD_MOST
     }
 }
 
@@ -33,7 +36,7 @@ pub(crate) fn is_last(d: Descriptor) -> bool
     ensures { λ r. ⌜ r ≡ isLast d ⌝ }
 {
     let control_pkt = d.control1 / 0x4000_0000 % 2 == 1;
-    control_pkt | (d.bytestogo <= 128)
+    control_pkt | (d.bytestogo <= PAYLOAD_MOST)
 }
 
 // With notify, the last packet posts a zero notice to note_index.
@@ -79,10 +82,10 @@ pub(crate) fn next_sender(s: Saved, send: &[u32], receive: &[u32]) -> Found
 {
     let mut k: u32 = 0;
     loop {
-        if k == 4 {
+        if k == DESCRIPTORS {
             break Found::Nothing;
         }
-        let d = DescriptorIndex((s.lastsender + 1 + k) % 4);
+        let d = DescriptorIndex((s.lastsender + 1 + k) % DESCRIPTORS);
         if is_ready(s, send, receive, d) {
             break Found::At(d);
         }
@@ -92,11 +95,11 @@ pub(crate) fn next_sender(s: Saved, send: &[u32], receive: &[u32]) -> Found
 
 // quiet: "none active".
 pub(crate) fn none_active(send: &[u32]) -> bool
-    requires { ⌜ length (now send) ≡ 1024 ⌝ }
+    requires { ⌜ length (now send) ≡ sendSize ⌝ }
     ensures { λ r. ⌜ r ≡ noneActive (now (send .entry)) ⌝ }
 {
     let mut none = true;
-    for d in 0u32..4 {
+    for d in 0u32..DESCRIPTORS {
         none = none & !is_active(descriptor_at(send, DescriptorIndex(d)));
     }
     none

@@ -5,6 +5,7 @@ use rules::Refusal;
 use rules::Saved;
 use rules::Sending;
 use rules::Verdict;
+use rules::sizes::PACKET_MOST;
 ghost use mathlib.Core.Path.{_≡_};
 ghost use Rattle.rules.specs.Calls.{sendingOf, judgeSend};
 ghost use Rattle.laws.specs.Lent.{before};
@@ -42,7 +43,7 @@ pub fn judge_send(
     if !enable {
         return Sending::No(Refusal::Off);
     }
-    if room < 168 {
+    if room < PACKET_MOST {
         return Sending::No(Refusal::Short);
     }
     if choosing::none_active(send) {

@@ -1,4 +1,5 @@
 -- `registers::parts::receive_part` meets its contract. Assumes nothing.
+use borrow.Author.Needs.{needs}
 use Rattle.ground.proofs.Choice.{branches}
 use Rattle.rules.specs.Memory.{receivePart}
 use Rattle.registers.proofs.parts.receive_part.Statement.{statement}
@@ -10,6 +11,7 @@ receive-part-spec =
     tie.close
     (tie.spec
     (λ c. search branches depth 12)
+    (λ c. search needs)
     (λ c. search branches depth 12)
     (λ c. search branches depth 12)
     (λ c. search branches depth 12))

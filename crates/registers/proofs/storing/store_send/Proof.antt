@@ -18,6 +18,7 @@ store-send-spec =
     (λ c. search needs)
     (λ c. search needs)
     (λ c. search needs)
+    (λ c. search needs)
     (λ c. search word-asks)
     (λ c. search needs)
     (λ c κs. search (needs, start-low))
