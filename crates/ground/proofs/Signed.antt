@@ -10,7 +10,7 @@ use lib.Dec.{T, ltb, eqb}
 use borrow.Author.Tests.{lt-ltb, le-ltb, ne-eqb, ltb-true}
 use mir.Syntax.{w32}
 use mir.Val.{SFits, toZ, ofZ, sel}
-use mir.ValLaws.{toZ-ofZ, ofZ-toZ, toZ-fits}
+use mir.ValLaws.{toZ-fits}
 use Rattle.ground.specs.Choice.{pick}
 use Rattle.ground.specs.Signed.{signed, unsigned, isZero}
 use Rattle.ground.proofs.Choice.{pick-yes, pick-no}

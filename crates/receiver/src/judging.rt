@@ -3,6 +3,7 @@ use crate::first_failure;
 use crate::posting;
 use packet::read;
 use rules::Packet;
+use rules::QUEUE_SIZE;
 use rules::Receipt;
 use rules::Receiving;
 use rules::Refusal;
@@ -22,7 +23,7 @@ fn has_room_for(s: Saved, receive: &[u32], p: Packet, r: Receipt) -> bool
     let aqr = s.aqr;
     let notice = posting::receipt_posting(p, r);
     let entry = posting::needs_aqr(p, r);
-    notices::can_post_all(s, receive, notice) & (!entry | (aqr.length < 256))
+    notices::can_post_all(s, receive, notice) & (!entry | (aqr.length < QUEUE_SIZE))
 }
 
 // What a receive of a packet does, by the table's rows in their order.

@@ -1,5 +1,7 @@
 // "Valid needs": when a slot takes packets.
 use crate::togo;
+use rules::LISTS;
+use rules::MOST24;
 use rules::Slot;
 ghost use mathlib.Core.Path.{_≡_};
 ghost use Rattle.rules.specs.Slots.{slotOk};
@@ -22,9 +24,9 @@ pub(crate) fn slot_ok(v: Slot, datalength: usize) -> bool
         & (reserve == 0)
         & (v.base as usize + v.size as usize <= datalength)
         & togo::word_within_24(v.bytestogo)
-        & (ack_note_index < 64)
-        & (!notify | (note_index < 64))
-        & (v.msgsize <= 16_777_215)
-        & (v.msgoffset <= 16_777_215)
+        & (ack_note_index < LISTS)
+        & (!notify | (note_index < LISTS))
+        & (v.msgsize <= MOST24)
+        & (v.msgoffset <= MOST24)
         & (v.metaword == flag_and_length)
 }
