@@ -7,6 +7,9 @@ mod cases;
 use bytes::read_words;
 use cases::answer_case;
 
+// A case's head: three numbers and six sizes.
+const HEAD_WORDS: usize = 9;
+
 // A size of a case.
 fn size(n: u32) -> usize {
     n as usize
@@ -14,7 +17,7 @@ fn size(n: u32) -> usize {
 
 // The case of that head is answered in parts of the memories; false where one is beyond its memory.
 fn answer_in_memories(
-    head: &[u32; 9],
+    head: &[u32; HEAD_WORDS],
     send: &mut [u32],
     receive: &mut [u32],
     data: &mut [u8],
@@ -55,7 +58,7 @@ fn answer_in_memories(
 
 // The same in parts of the two rooms too.
 fn answer_in_parts(
-    head: &[u32; 9],
+    head: &[u32; HEAD_WORDS],
     send: &mut [u32],
     receive: &mut [u32],
     data: &mut [u8],
@@ -94,7 +97,7 @@ fn turn(
     room: &mut [u32],
     page: &mut [u8],
 ) -> bool {
-    let mut head = [0u32; 9];
+    let mut head = [0u32; HEAD_WORDS];
     read_words(&mut head, page)
         && answer_in_parts(&head, send, receive, data, notices, packet, room, page)
 }

@@ -1,6 +1,9 @@
 // A record's kind, and the call that it asks for.
 use rules::Answer;
 use rules::Saved;
+use rules::sizes::BLOCK_SIZE;
+use rules::sizes::PACKET_MOST;
+use rules::sizes::RECORD_SIZE;
 ghost use mathlib.Core.Path.{_≡_};
 ghost use lib.ListN.{length};
 ghost use Rattle.rules.specs.Station.{recordSize, kindOf};
@@ -11,7 +14,11 @@ ghost use Rattle.records.specs.Records.{PacketTo, Gives};
 pub(crate) fn kind_of(record: &[u8]) -> u8
     ensures { λ r. ⌜ r ≡ kindOf (now («record» .entry)) ⌝ }
 {
-    if record.len() == 192 { record[0] } else { 0 }
+    if record.len() == RECORD_SIZE {
+        record[0]
+    } else {
+        0
+    }
 }
 
 // Where a whole record's packet ends.
@@ -20,7 +27,11 @@ fn packet_end(record: &[u8]) -> usize
     ensures { λ r. ⌜ PacketTo (now («record» .entry)) r ⌝ }
 {
     let n = words::get(record, 12);
-    if n <= 168 { 16 + n as usize } else { 16 }
+    if n <= PACKET_MOST as u32 {
+        16 + n as usize
+    } else {
+        16
+    }
 }
 
 // The call that a whole record asks for.
@@ -52,11 +63,11 @@ fn call_whole(
             engine::receive(s, send, receive, bytes, notices, &record[16..end])
         }
         4 => {
-            let mut room = [0u8; 168];
+            let mut room = [0u8; PACKET_MOST];
             engine::send(s, send, receive, bytes, notices, first == 1, &mut room)
         }
         5 => {
-            let mut room = [0u32; 8];
+            let mut room = [0u32; BLOCK_SIZE];
             engine::take(s, send, receive, bytes, notices, first, &mut room)
         }
         _ => engine::unknown(s, send, receive, bytes, notices),
@@ -74,7 +85,7 @@ pub(crate) fn call(
 ) -> Answer
     ensures { λ r. ⌜ Gives (before s send receive bytes notices) (now («record» .entry)) (leaves r send receive bytes notices) ⌝ }
 {
-    if record.len() == 192 {
+    if record.len() == RECORD_SIZE {
         call_whole(s, send, receive, bytes, notices, record)
     } else {
         engine::unknown(s, send, receive, bytes, notices)

@@ -1,6 +1,7 @@
 // The machine that the station begins with.
 use rules::Queue;
 use rules::Saved;
+use rules::sizes::PCSR0_NUMBER;
 ghost use Rattle.laws.specs.Lent.{after};
 ghost use Rattle.records.specs.Records.{Opens};
 
@@ -27,6 +28,6 @@ pub fn open(send: &mut [u32], receive: &mut [u32], bytes: &[u8], notices: &mut [
         nbqr: none,
         lastsender: 3,
     };
-    let a = engine::write(s, send, receive, bytes, notices, 0, 0x8000_0000);
+    let a = engine::write(s, send, receive, bytes, notices, PCSR0_NUMBER, 0x8000_0000);
     a.saved
 }

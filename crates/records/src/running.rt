@@ -1,6 +1,7 @@
 // A record after the other: each call on the machine that the last left, each line where the last ended.
 use crate::calling;
 use rules::Saved;
+use rules::sizes::RECORD_SIZE;
 ghost use mathlib.Core.Path.{_≡_};
 ghost use Prim.Native.Nat.{_+_, _-_, _≤_, min};
 ghost use lib.ListN.{length};
@@ -20,7 +21,11 @@ fn record_end(at: usize, size: usize) -> usize
     requires { ⌜ at ≤ size ⌝ }
     ensures { λ r. ⌜ r ≡ at + min recordSize (size - at) ⌝ }
 {
-    if size - at < 192 { size } else { at + 192 }
+    if size - at < RECORD_SIZE {
+        size
+    } else {
+        at + RECORD_SIZE
+    }
 }
 
 // One record: its call, and its line from place `at` of the output on.

@@ -1,5 +1,6 @@
 // What is done with the bytes at hand, without a read or a write: their records are answered, and the rest waits where the next bytes come.
 use rules::Saved;
+use rules::sizes::RECORD_SIZE;
 ghost use mathlib.Core.Path.{_≡_};
 ghost use Prim.Native.Nat.{_-_};
 ghost use Rattle.ground.specs.Lists.{part};
@@ -13,7 +14,7 @@ fn answered_to(n: usize, filled: usize) -> usize
     if n == 0 {
         filled
     } else {
-        filled - filled % 192
+        filled - filled % RECORD_SIZE
     }
 }
 
@@ -25,7 +26,7 @@ fn keep(input: &mut [u8], rest: &mut [u8], from: usize, to: usize) -> usize
 {
     let n = to - from;
     words::copy(rest, 0, &input[from..to]);
-    words::copy(input, 192 - n, &rest[..n]);
+    words::copy(input, RECORD_SIZE - n, &rest[..n]);
     n
 }
 
@@ -53,11 +54,11 @@ pub(crate) fn answer(
     ensures { λ r. ⌜ Answers (before s send receive bytes notices) n (handIn (now (input .entry)) kept n) r
         (now (send .exit)) (now (receive .exit)) (now (bytes .exit)) (now (notices .exit)) (now (input .exit)) (now (out .exit)) ⌝ }
 {
-    let start = 192 - kept;
+    let start = RECORD_SIZE - kept;
     let end = start + answered_to(n, kept + n);
     let t = records::run(s, send, receive, bytes, notices, &input[start..end], out);
     let saved = t.saved;
-    let left = keep(input, rest, end, 192 + n);
+    let left = keep(input, rest, end, RECORD_SIZE + n);
     Answered {
         saved,
         next: t.next,

@@ -5,6 +5,12 @@ mod turning;
 
 use libc::STDIN_FILENO;
 use libc::STDOUT_FILENO;
+use lines::LINE_MOST;
+use rules::sizes::DATA_MOST;
+use rules::sizes::NOTICES_MOST;
+use rules::sizes::RECEIVE_SIZE;
+use rules::sizes::RECORD_SIZE;
+use rules::sizes::SEND_SIZE;
 use turning::begin;
 use turning::turn;
 ghost use mathlib.Core.Path.{_≡_};
@@ -18,21 +24,21 @@ fn read_on(input: &mut [u8]) -> usize
     ensures { λ r. ⌜ recordSize + r ≤ length (now (input .exit)) ⌝ }
     ensures { λ r. ⌜ take recordSize (now (input .exit)) ≡ take recordSize (now (input .entry)) ⌝ }
 {
-    let behind = &mut input[192..];
+    let behind = &mut input[RECORD_SIZE..];
     let got = libc::read(STDIN_FILENO, behind);
     io::count(got, behind)
 }
 
 fn main() {
     let mut saved = [0u32; 15];
-    let mut send = [0u32; 1024];
-    let mut receive = [0u32; 2048];
-    let mut bytes = [0u8; 32768];
-    let mut notices = [0u32; 2048];
-    // 255 records of 192 bytes behind what waits, less than one; as many lines of 29 bytes at most, and one; a room for what waits.
-    let mut input = [0u8; 49152];
-    let mut out = [0u8; 7424];
-    let mut rest = [0u8; 192];
+    let mut send = [0u32; SEND_SIZE];
+    let mut receive = [0u32; RECEIVE_SIZE];
+    let mut bytes = [0u8; DATA_MOST];
+    let mut notices = [0u32; NOTICES_MOST];
+    // 255 records behind what waits, less than one; as many lines, and one; a room for what waits.
+    let mut input = [0u8; 256 * RECORD_SIZE];
+    let mut out = [0u8; 256 * LINE_MOST];
+    let mut rest = [0u8; RECORD_SIZE];
     let mut kept = 0usize;
     let mut count = 0u64;
     begin(

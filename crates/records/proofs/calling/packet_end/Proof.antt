@@ -11,5 +11,6 @@ packet-end-spec =
     (λ c κs. search needs)
     (λ c. search needs)
     (λ c. search needs)
+    (λ c. search needs)
     (λ c. packet-to _ (c .before .get .ensures) (c .if1 .taken))
     (λ c. no-packet _ (c .before .get .ensures) (c .if1 .left)))
