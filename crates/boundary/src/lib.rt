@@ -13,6 +13,8 @@ pub use receive::valmthosh_receive;
 pub use send::valmthosh_send;
 pub use take::valmthosh_take;
 pub use unknown::unknown_call;
+pub use words::ANSWER_WORDS;
+pub use words::SAVED_WORDS;
 pub use words::load;
 pub use words::store;
 pub use write::valmthosh_write;

@@ -7,10 +7,10 @@ ghost use lib.ListN.{length};
 ghost use Rattle.boundary.specs.Boundary.{savedSize, lentOk, savedOf, wordsOf, Writable, Ends};
 
 // A saved state has so many words.
-const SAVED_WORDS: usize = 15;
+pub const SAVED_WORDS: usize = 15;
 
 // An answer has so many, and stands in the first of the lent ones.
-const ANSWER_WORDS: usize = 3;
+pub const ANSWER_WORDS: usize = 3;
 
 // "sizes", where these words are not lent.
 pub(crate) const SIZES: u32 = 13;

@@ -4,6 +4,8 @@ use crate::bytes::read_words;
 use crate::bytes::write_bytes;
 use crate::bytes::write_words;
 use crate::calls::call;
+use boundary::ANSWER_WORDS;
+use boundary::SAVED_WORDS;
 
 // The saved state and the memories from standard input; false where it ends before.
 fn read_contents(
@@ -55,7 +57,7 @@ fn respond(
     room: &mut [u32],
     page: &mut [u8],
 ) -> bool {
-    let mut answer = [0u32; 3];
+    let mut answer = [0u32; ANSWER_WORDS];
     call(
         kind,
         a,
@@ -86,7 +88,7 @@ pub(crate) fn answer_case(
     room: &mut [u32],
     page: &mut [u8],
 ) -> bool {
-    let mut saved = [0u32; 15];
+    let mut saved = [0u32; SAVED_WORDS];
     let whole = read_contents(&mut saved, send, receive, data, notices, packet, room, page);
     whole
         && respond(

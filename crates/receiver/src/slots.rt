@@ -1,8 +1,8 @@
 // "Valid needs": when a slot takes packets.
 use crate::togo;
-use rules::LISTS;
-use rules::MOST24;
 use rules::Slot;
+use rules::sizes::LISTS;
+use rules::sizes::MOST24;
 ghost use mathlib.Core.Path.{_≡_};
 ghost use Rattle.rules.specs.Slots.{slotOk};
 

@@ -3,6 +3,7 @@
 mod answering;
 mod turning;
 
+use boundary::SAVED_WORDS;
 use libc::STDIN_FILENO;
 use libc::STDOUT_FILENO;
 use lines::LINE_MOST;
@@ -30,7 +31,7 @@ fn read_on(input: &mut [u8]) -> usize
 }
 
 fn main() {
-    let mut saved = [0u32; 15];
+    let mut saved = [0u32; SAVED_WORDS];
     let mut send = [0u32; SEND_SIZE];
     let mut receive = [0u32; RECEIVE_SIZE];
     let mut bytes = [0u8; DATA_MOST];
