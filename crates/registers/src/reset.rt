@@ -31,7 +31,7 @@ fn clear_descriptor(send: &mut [u32], d: DescriptorIndex)
     ensures { λ _. ⌜ now (send .exit) ≡ sets (now (send .entry)) (descriptorFirst d) clearDescriptor ⌝ }
 {
     let row = [0, 0, 0, 0, 0, 0, 0x2000_0000, 0, 0, 0, 0, 0, 0, 0, 0, 0];
-    words::store(send, (DESCRIPTOR_SIZE * d.0) as usize, &row);
+    words::store(send, DESCRIPTOR_SIZE as usize * d.0 as usize, &row);
 }
 
 // All four descriptors.

@@ -14,7 +14,7 @@ pub fn descriptor_at(send: &[u32], d: DescriptorIndex) -> Descriptor
     requires { ⌜ (d .0 < descriptors) × (length (now send) ≡ sendSize) ⌝ }
     ensures { λ r. ⌜ r ≡ descriptorAt (now (send .entry)) d ⌝ }
 {
-    let first = (DESCRIPTOR_SIZE * d.0) as usize;
+    let first = DESCRIPTOR_SIZE as usize * d.0 as usize;
     Descriptor {
         msgaddress: send[first],
         address0: send[first + 1],
@@ -41,5 +41,5 @@ pub fn store_descriptor(send: &mut [u32], d: DescriptorIndex, v: Descriptor)
         v.control1,
         v.status2,
     ];
-    words::store(send, (DESCRIPTOR_SIZE * d.0) as usize, &row);
+    words::store(send, DESCRIPTOR_SIZE as usize * d.0 as usize, &row);
 }

@@ -12,7 +12,7 @@ pub fn head_word(l: ListIndex) -> usize
     requires { ⌜ l .0 < lists ⌝ }
     ensures { λ r. ⌜ r ≡ headWord l ⌝ }
 {
-    (LISTS_FROM + 2 * l.0) as usize
+    LISTS_FROM as usize + 2 * l.0 as usize
 }
 
 // The token stands after the head.
@@ -28,7 +28,7 @@ pub fn place_word(l: ListIndex) -> usize
     requires { ⌜ l .0 < lists ⌝ }
     ensures { λ r. ⌜ r ≡ placeWord l ⌝ }
 {
-    (PLACES_FROM + l.0) as usize
+    PLACES_FROM as usize + l.0 as usize
 }
 
 // A block's address, in a notice memory of n words.

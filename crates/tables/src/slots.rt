@@ -14,7 +14,7 @@ pub fn slot_at(receive: &[u32], i: SlotIndex) -> Slot
     requires { ⌜ (i .0 < slotsMost) × (length (now receive) ≡ receiveSize) ⌝ }
     ensures { λ r. ⌜ r ≡ slotAt (now (receive .entry)) i ⌝ }
 {
-    let first = (SLOT_SIZE * i.0) as usize;
+    let first = SLOT_SIZE as usize * i.0 as usize;
     Slot {
         base: receive[first],
         size: receive[first + 1],
@@ -56,5 +56,5 @@ pub fn store_slot(receive: &mut [u32], i: SlotIndex, v: Slot)
         v.namea,
         v.nameb,
     ];
-    words::store(receive, (SLOT_SIZE * i.0) as usize, &row);
+    words::store(receive, SLOT_SIZE as usize * i.0 as usize, &row);
 }

@@ -33,5 +33,6 @@ descriptor-at-spec =
     (λ c. search needs)
     (λ c. search needs)
     (λ c. search needs)
+    (λ c. search needs)
     (λ c κs. search needs)
     (λ c. rw (c .metadata-at .ensures) refl))
