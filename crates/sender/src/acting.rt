@@ -11,6 +11,7 @@ use rules::Refusal;
 use rules::Reply;
 use rules::Saved;
 use rules::Sending;
+use rules::sizes::DESCRIPTOR_SIZE;
 use tables::descriptor_at;
 use tables::store_descriptor;
 ghost use lib.ListN.{length};
@@ -69,13 +70,15 @@ fn act_sends(
     }
 }
 
+// status2 is word 6 of a descriptor.
+const STATUS2_WORD: usize = 6;
+
 // fabric: "stalled set on the chosen descriptor, no more".
 fn act_waits(i: DescriptorIndex, s: Saved, send: &mut [u32]) -> Answer
     requires { ⌜ Markable i (now send) ⌝ }
     ensures { λ r. ⌜ Marks i s (now (send .entry)) r (now (send .exit)) ⌝ }
 {
-    // status2, word 6 of the descriptor.
-    let at = 16 * i.0 as usize + 6;
+    let at = DESCRIPTOR_SIZE as usize * i.0 as usize + STATUS2_WORD;
     send[at] = moving::with_stalled(send[at]);
     refuse(s, Refusal::Fabric)
 }
