@@ -33,28 +33,19 @@ stepped {m} {r} a g k w =
 rest : (x : ℕ) (xs : List ℕ) (n : ℕ) → length (x ∷ xs) ≤ suc n → length (drop recordSize (x ∷ xs)) ≤ n
 rest x xs n h = omega (arith, length-drop recordSize (x ∷ xs))
 
-lines-enough : (n k : ℕ) (m : Machine) (l : List ℕ) → length l ≤ n → length l ≤ k → linesFrom n m l ≡ linesFrom k m l
-unfolding linesFrom
-lines-enough zero zero m l h g = refl
-lines-enough zero (suc k) m [] h g = refl
-lines-enough zero (suc k) m (x ∷ xs) h g = absurd (omega arith)
-lines-enough (suc n) zero m [] h g = refl
-lines-enough (suc n) zero m (x ∷ xs) h g = absurd (omega arith)
-lines-enough (suc n) (suc k) m [] h g = refl
-lines-enough (suc n) (suc k) m (x ∷ xs) h g =
-    ap (λ (t : List ℕ). recordLine (take recordSize (x ∷ xs)) (outcomeOf m (take recordSize (x ∷ xs))) ++ t)
-    (lines-enough n k (outcomeOf m (take recordSize (x ∷ xs)) .machine) (drop recordSize (x ∷ xs)) (rest x xs n h) (rest x xs k g))
-
-machine-enough : (n k : ℕ) (m : Machine) (l : List ℕ) → length l ≤ n → length l ≤ k → machineAfter n m l ≡ machineAfter k m l
-unfolding machineAfter
-machine-enough zero zero m l h g = refl
-machine-enough zero (suc k) m [] h g = refl
-machine-enough zero (suc k) m (x ∷ xs) h g = absurd (omega arith)
-machine-enough (suc n) zero m [] h g = refl
-machine-enough (suc n) zero m (x ∷ xs) h g = absurd (omega arith)
-machine-enough (suc n) (suc k) m [] h g = refl
-machine-enough (suc n) (suc k) m (x ∷ xs) h g =
-    machine-enough n k (outcomeOf m (take recordSize (x ∷ xs)) .machine) (drop recordSize (x ∷ xs)) (rest x xs n h) (rest x xs k g)
+enough : (n k : ℕ) (m : Machine) (l : List ℕ) → length l ≤ n → length l ≤ k
+    → (linesFrom n m l ≡ linesFrom k m l) × (machineAfter n m l ≡ machineAfter k m l)
+unfolding linesFrom machineAfter
+enough zero zero m l h g = (refl, refl)
+enough zero (suc k) m [] h g = (refl, refl)
+enough zero (suc k) m (x ∷ xs) h g = absurd (omega arith)
+enough (suc n) zero m [] h g = (refl, refl)
+enough (suc n) zero m (x ∷ xs) h g = absurd (omega arith)
+enough (suc n) (suc k) m [] h g = (refl, refl)
+enough (suc n) (suc k) m (x ∷ xs) h g =
+    let r : List ℕ = take recordSize (x ∷ xs) in
+    let on = enough n k (outcomeOf m r .machine) (drop recordSize (x ∷ xs)) (rest x xs n h) (rest x xs k g) in
+    (ap (λ (t : List ℕ). recordLine r (outcomeOf m r) ++ t) (on .0), on .1)
 
 -- ---- the start of a list
 
@@ -84,6 +75,13 @@ drop-min n l = side (decLe n (length l))
 
 -- ---- a row
 
+-- What stands past the first record has enough turns either way.
+others : (m : Machine) (x : ℕ) (xs : List ℕ) → let l = drop recordSize (x ∷ xs) in let m₂ = outcomeOf m (take recordSize (x ∷ xs)) .machine in
+    (linesFrom (length xs) m₂ l ≡ linesFrom (length l) m₂ l) × (machineAfter (length xs) m₂ l ≡ machineAfter (length l) m₂ l)
+others m x xs =
+    let l : List ℕ = drop recordSize (x ∷ xs) in
+    enough (length xs) (length l) (outcomeOf m (take recordSize (x ∷ xs)) .machine) l (rest x xs (length xs) (omega arith)) (omega arith)
+
 -- The lines of an input, the first one and the others.
 lines-first : (m : Machine) (l : List ℕ) → 0 < length l
     → linesFrom (length l) m l
@@ -93,14 +91,13 @@ unfolding linesFrom
 lines-first m [] h = absurd (omega arith)
 lines-first m (x ∷ xs) h =
     ap (λ (t : List ℕ). recordLine (take recordSize (x ∷ xs)) (outcomeOf m (take recordSize (x ∷ xs))) ++ t)
-    (lines-enough (length xs) (length (drop recordSize (x ∷ xs))) (outcomeOf m (take recordSize (x ∷ xs)) .machine) (drop recordSize (x ∷ xs)) (rest x xs (length xs) (omega arith)) (omega arith))
+    (others m x xs .0)
 
 machine-first : (m : Machine) (l : List ℕ) → 0 < length l
     → machineAfter (length l) m l ≡ machineAfter (length (drop recordSize l)) (outcomeOf m (take recordSize l) .machine) (drop recordSize l)
 unfolding machineAfter
 machine-first m [] h = absurd (omega arith)
-machine-first m (x ∷ xs) h =
-    machine-enough (length xs) (length (drop recordSize (x ∷ xs))) (outcomeOf m (take recordSize (x ∷ xs)) .machine) (drop recordSize (x ∷ xs)) (rest x xs (length xs) (omega arith)) (omega arith)
+machine-first m (x ∷ xs) h = others m x xs .1
 
 -- What is left of an input gives the end that the whole gives.
 pub record Left (final : Machine) (total before : List ℕ) (m : Machine) (l : List ℕ) (next : ℕ) (out : List ℕ) : Type 0 where
