@@ -15,79 +15,7 @@ fn size(n: u32) -> usize {
     n as usize
 }
 
-// The case of that head is answered in parts of the memories; false where one is beyond its memory.
-fn answer_in_memories(
-    head: &[u32; HEAD_WORDS],
-    send: &mut [u32],
-    receive: &mut [u32],
-    data: &mut [u8],
-    notices: &mut [u32],
-    packet: &mut [u8],
-    room: &mut [u32],
-    page: &mut [u8],
-) -> bool {
-    let sends = size(head[3]);
-    if sends > send.len() {
-        return false;
-    }
-    let receives = size(head[4]);
-    if receives > receive.len() {
-        return false;
-    }
-    let bytes = size(head[5]);
-    if bytes > data.len() {
-        return false;
-    }
-    let words = size(head[6]);
-    if words > notices.len() {
-        return false;
-    }
-    answer_case(
-        head[0],
-        head[1],
-        head[2],
-        &mut send[..sends],
-        &mut receive[..receives],
-        &mut data[..bytes],
-        &mut notices[..words],
-        packet,
-        room,
-        page,
-    )
-}
-
-// The same in parts of the two rooms too.
-fn answer_in_parts(
-    head: &[u32; HEAD_WORDS],
-    send: &mut [u32],
-    receive: &mut [u32],
-    data: &mut [u8],
-    notices: &mut [u32],
-    packet: &mut [u8],
-    room: &mut [u32],
-    page: &mut [u8],
-) -> bool {
-    let packets = size(head[7]);
-    if packets > packet.len() {
-        return false;
-    }
-    let rooms = size(head[8]);
-    if rooms > room.len() {
-        return false;
-    }
-    answer_in_memories(
-        head,
-        send,
-        receive,
-        data,
-        notices,
-        &mut packet[..packets],
-        &mut room[..rooms],
-        page,
-    )
-}
-
-// The next case is answered; false where there is none, or none that the rooms hold.
+// The next case is answered in parts of the memories and rooms; false where there is none, or none that they hold.
 fn turn(
     send: &mut [u32],
     receive: &mut [u32],
@@ -98,8 +26,33 @@ fn turn(
     page: &mut [u8],
 ) -> bool {
     let mut head = [0u32; HEAD_WORDS];
-    read_words(&mut head, page)
-        && answer_in_parts(&head, send, receive, data, notices, packet, room, page)
+    if !read_words(&mut head, page) {
+        return false;
+    }
+    let sends = size(head[3]);
+    let receives = size(head[4]);
+    let bytes = size(head[5]);
+    let words = size(head[6]);
+    let packets = size(head[7]);
+    let rooms = size(head[8]);
+    if sends > send.len() || receives > receive.len() || bytes > data.len() {
+        return false;
+    }
+    if words > notices.len() || packets > packet.len() || rooms > room.len() {
+        return false;
+    }
+    answer_case(
+        head[0],
+        head[1],
+        head[2],
+        &mut send[..sends],
+        &mut receive[..receives],
+        &mut data[..bytes],
+        &mut notices[..words],
+        &mut packet[..packets],
+        &mut room[..rooms],
+        page,
+    )
 }
 
 fn main() {
