@@ -19,7 +19,7 @@ use Rattle.boundary.specs.Boundary.{savedSize, savedOf, wordsOf}
 use Rattle.records.specs.Records.{Opens}
 use Rattle.records.proofs.Rows.{in-parts}
 use Rattle.station.specs.declared.answering.Answered.{Answered}
-use Rattle.station.specs.Turns.{answeredTo, answeredOf, linesOf, waitingIn, cameIn, handIn, Answers, Held, held, Zeros, opened, Begun, goneOn, linesNow, Reads, none, _▸_, read, after, written, Going, SoFar, Turnable, Turned, InTurns}
+use Rattle.station.specs.Turns.{answeredTo, answeredOf, linesOf, waitingIn, cameIn, handIn, Answers, Held, held, Zeros, opened, Begun, goneOn, linesNow, Reads, none, _▸_, read, after, written, Going, countMost, SoFar, Turnable, Turned, InTurns}
 use Rattle.station.proofs.Hand.{at-the-end, before-the-end, part-rest}
 
 -- ---- the lines of a turn
@@ -137,8 +137,11 @@ module _ {saved send receive bytes notices input out rest : List ℕ} {kept coun
   pub words-kept : length saved ≡ savedSize
   words-kept = given .words
 
-  pub counts : Fits w64 (count + n)
-  counts = record { fits = omega (arith, given .filled .rooms .0, given .filled .fits, given .counts) }
+  pub counts : {k : ℕ} → k < countMost → Fits w64 (count + k)
+  counts h = record { fits = omega (arith, given .counts, h) }
+
+  pub few : n < countMost
+  few = omega (arith, given .filled .rooms .0, given .filled .fits)
 
 -- What came stands behind what waited.
 behind : (input : List ℕ) (kept n : ℕ) → kept < recordSize → handIn input kept n ≡ waitingIn input kept ++ cameIn input n

@@ -1,6 +1,7 @@
 -- `station::turning::turn` meets its contract. Assumes nothing.
+use native.Mathlib.Omega.{arith}
 use borrow.Author.Needs.{needs}
-use Rattle.station.proofs.Turns.{words-kept, counts, in-memories}
+use Rattle.station.proofs.Turns.{words-kept, counts, few, in-memories}
 use Rattle.station.proofs.turning.turn.Statement.{statement}
 use Rattle.station.proofs.turning.turn.Tie as tie
 
@@ -11,7 +12,7 @@ turn-spec =
     (λ c κs. search needs)
     (λ c κs. search needs)
     (λ c κs. let start = c .before .before .before .before .before .before .before .before .before .before .before .before .before .before .before .before .before .before .before .before .before .before .before .before .before .before .before .before .before .before .before .before .before .before .before in words-kept (start .pre))
-    (λ c. let start = c .before .before .before .before .before .before .before .before .before .before .before .before .before .before .before .before .before .before .before .before .before .before .before .before .before .before .before .before .before .before .before .before .before .before .before .before .before .before .before in counts (start .pre))
+    (λ c. let start = c .before .before .before .before .before .before .before .before .before .before .before .before .before .before .before .before .before .before .before .before .before .before .before .before .before .before .before .before .before .before .before .before .before .before .before .before .before .before .before in counts (start .pre) (omega (arith, few (start .pre))))
     (λ c. search needs)
     (λ c. search needs)
     (λ c. search needs)
