@@ -13,7 +13,7 @@ unfolding byte_step
 returns c =
     let a = c.before.args in
     let e : a.byte * 2 ^ 8 % 2 ^ 16 ≡ a.byte * 256 = omega arith in
-    c.shift-eight.ensures ∙ ap (λ (x : ℕ). bit_steps 8 (bit_xor a.c x)) e
+    c.shift_eight.ensures ∙ ap (λ (x : ℕ). bit_steps 8 (bit_xor a.c x)) e
 
 pub take_byte_spec : {M : Type 1} → statement M
 take_byte_spec = tie.close (tie.spec (search rules) returns)

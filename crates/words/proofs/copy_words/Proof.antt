@@ -11,24 +11,24 @@ use Rattle.ground.proofs.Bytes.{words_more, words_all}
 use Rattle.words.proofs.copy_words.Statement.{statement}
 use Rattle.words.proofs.copy_words.Tie as tie
 
-abbrev invariant-loop : tie.invariant-loop
+abbrev invariant-loop : tie.invariant-loop-i
 invariant-loop to₀ at from i₀ to i =
     (i ≤ length from) × (length to ≡ length to₀) × (sets to (at + i * 4) (to_bytes (drop i from)) ≡ sets to₀ at (to_bytes from))
 
-abbrev decreases-loop : tie.decreases-loop
+abbrev decreases-loop : tie.decreases-loop-i
 decreases-loop to₀ at from i₀ to i = length from - i
 
-loop_again : tie.Need-loop-preserved invariant-loop decreases-loop
+loop_again : tie.Need-loop-i-preserved invariant-loop decreases-loop
 loop_again c =
     let k = c.before.before.before.before.before.before in
-    let l = k.loop in
+    let l = k.loop-i in
     let a = k.before.before.before.args in
     let e = words_more l.to a.from.now a.at l.i (omega arith) l.invariant.2 in
     (omega arith, omega arith, cc e)
 
 returns : tie.Need-returns invariant-loop decreases-loop
 returns c =
-    let l = c.before.loop in
+    let l = c.before.loop-i in
     let a = c.before.before.before.before.args in
     words_all l.to a.from.now a.at l.i (omega arith) l.invariant.2
 
@@ -47,5 +47,5 @@ copy_words_spec =
     (search rules)
     (search rules)
     loop_again
-    (λ c. c.before.loop.invariant.1)
+    (λ c. c.before.loop-i.invariant.1)
     returns)
