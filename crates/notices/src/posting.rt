@@ -24,7 +24,7 @@ fn can_post(s: Saved, receive: &[u32], l: ListIndex) -> bool
 }
 
 // A queue after a push, its interrupt bit, and the interrupt.
-#[derive(Drop)]
+#[derive(Clone, Copy)]
 struct Pushed {
     queue: Queue,
     bit: u32,
