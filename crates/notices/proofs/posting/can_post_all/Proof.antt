@@ -11,6 +11,6 @@ can_post_all_spec =
     (tie.spec
     (λ c. search rules)
     (λ c. search rules)
-    (λ c κs. let b = c.before in (b.before.before.before.requires.0.low _ _ b.p.given.1, search rules))
-    (λ c. rw c.enum_told.given.1)
-    (λ c. rw c.before.before.p.given.1 c.can-post.ensures))
+    (λ c κs. let b = c.before in (b.before.before.before.requires.0.low _ _ b.p-1.given.1, search rules))
+    (λ c. rw c.enum_told-1.given.1)
+    (λ c. rw c.before.before.p-1.given.1 c.can_post.ensures))

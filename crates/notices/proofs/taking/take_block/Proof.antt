@@ -17,6 +17,6 @@ take_block_spec =
     (λ c. search rules)
     (λ c. search rules)
     (λ c κs. search rules)
-    (λ c. simp length-set at c.before.before.push-nbqr.auto.1.1.0)
+    (λ c. simp length-set at c.before.before.push_nbqr.auto.1.1.0)
     (λ c. search rules)
     (λ c. search taken))
