@@ -12,4 +12,4 @@ count_spec =
     (λ c κs. search rules)
     (λ c κs. search rules)
     (λ c. search counts_fault)
-    (λ c. counts_taken _ _ _ c.before.match.keys2 c.wrapping-add-u322.ensures))
+    (λ c. counts_taken _ _ _ c.before.in-Acks.keys2 c.wrapping_add_u32-in-Acks.ensures))

@@ -9,7 +9,7 @@ push_entry_spec =
     tie.close
     (tie.spec
     (λ c. search rules)
-    (λ c. never_entered _ _ _ _ c.match.keys2)
+    (λ c. never_entered _ _ _ _ c.in-Lands.keys2)
     (λ c κs. search entry_knows)
     (λ c.
     let lands = c.before.before.before.before in

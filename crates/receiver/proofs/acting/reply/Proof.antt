@@ -12,5 +12,5 @@ reply_spec =
     (tie.spec
     (λ c. search rules)
     (λ c κs. search rules)
-    (λ c. rw (c.before.before.r.given.1, c.fault-status.ensures))
-    (λ c. unless_fails (λ r. Reply.Done 0 ≡ receipt_reply r) (λ i v. refl) (λ i v. refl) c.before.args.r c.match.keys2))
+    (λ c. rw (c.before.before.r-1.given.1, c.fault_status.ensures))
+    (λ c. unless_fails (λ r. Reply.Done 0 ≡ receipt_reply r) (λ i v. refl) (λ i v. refl) c.before.args.r c.in-Fails.keys2))

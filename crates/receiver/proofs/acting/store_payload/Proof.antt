@@ -12,4 +12,4 @@ store_payload_spec =
     (λ c κs. search payload_fits)
     (λ c. search rules)
     (λ c. search payload_stored_lem)
-    (λ c. payload_none _ _ _ _ c.match.keys2))
+    (λ c. payload_none _ _ _ _ c.in_default.keys2))

@@ -17,18 +17,18 @@ receipt_in_spec =
     (λ c.
     let at = c.before.before in
     let asked = at.before.before.before.before.before.before.before.before.requires in
-    rw (← asked.judgeable.fields, ← at.slot_at.ensures) (search (judging, asked) depth 24))
+    rw (← asked.judgeable.fields, ← at.slot_at-v.ensures) (search (judging, asked) depth 24))
     (λ c.
     let at = c.before.before.before in
     let asked = at.before.before.before.before.before.before.before.before.requires in
-    rw (← asked.judgeable.fields, ← at.slot_at.ensures) (search (judging, asked) depth 24))
+    rw (← asked.judgeable.fields, ← at.slot_at-v.ensures) (search (judging, asked) depth 24))
     (λ c.
     let at = c.before.before.before.before in
     let asked = at.before.before.before.before.before.before.before.before.requires in
-    rw (← asked.judgeable.fields, ← at.slot_at.ensures) (search (judging, asked) depth 24))
+    rw (← asked.judgeable.fields, ← at.slot_at-v.ensures) (search (judging, asked) depth 24))
     (λ c κs.
     let valid = c.before.before in
-    data_asks _ _ valid.before.before.before.before.before.before.before.before.before.before.requires (flag_yes valid.before.Slot-ok.ensures valid.if1.false))
+    data_asks _ _ valid.before.before.before.before.before.before.before.before.before.before.requires (flag_yes valid.before.Slot-ok.ensures valid.if-not-slot_ok.false))
     (λ c.
     let plain = c.before in
     let same = plain.before in
@@ -36,8 +36,8 @@ receipt_in_spec =
     let at = valid.before.before in
     decided _ _ _ _ _ _
     at.before.before.before.before.before.before.before.before.requires
-    at.slot_at.ensures
-    (flag_yes valid.before.Slot-ok.ensures valid.if1.false)
-    same.if2.false
-    plain.if3.false
-    c.data-receipt.ensures))
+    at.slot_at-v.ensures
+    (flag_yes valid.before.Slot-ok.ensures valid.if-not-slot_ok.false)
+    same.if-incarnation-our_incarnation.false
+    plain.if-ack_pkt.false
+    c.data_receipt.ensures))

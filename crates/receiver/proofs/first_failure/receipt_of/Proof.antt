@@ -24,8 +24,8 @@ receipt_of_spec =
     let header = zeros.before.before.before.before.before.before in
     addressed _ _ _ _
     header.before.before.before.before.requires
-    (flag_yes header.before.header-checks.ensures header.if1.false)
-    (flag_yes zeros.before.fields-ok.ensures zeros.if2.false)
-    ours.if3.false
+    (flag_yes header.before.header_checks.ensures header.if-not-header_checks.false)
+    (flag_yes zeros.before.fields_ok.ensures zeros.if-not-fields_ok.false)
+    ours.if-dst_node-our_node.false
     (search rules))
     (λ c. search rules))
