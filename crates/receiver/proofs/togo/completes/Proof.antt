@@ -15,4 +15,4 @@ completes_spec =
     (λ c.
     let zero = c.before in
     let new = zero.before.new_bytes_to_go in
-    rw (zero.is_zero.ensures, read_back new.result new.type-inv, new.ensures)))
+    rw (zero.is_zero.ensures, read_back new.result new.type_inv, new.ensures)))

@@ -12,4 +12,4 @@ new_within_24_spec =
     (λ c κs. search rules)
     (λ c.
     let new = c.before.new_bytes_to_go in
-    rw (c.within_24.ensures, read_back new.result new.type-inv, new.ensures)))
+    rw (c.within_24.ensures, read_back new.result new.type_inv, new.ensures)))
