@@ -19,5 +19,5 @@ unknown_spec =
     let gated = c.before.before.gate.ensures in
     unknown_whole _
     (⊎_elim (λ w. gated_no _ _ _ _ _ gated (λ why. why) _ w.1.given.1 w.3) (λ w. gated_go _ _ _ _ _ gated (λ why. why) w.1.given.1 w.2)
-    c.before.match.branch)
+    c.before.in-No.branch)
     (c.refuse.ensures.whole _ _ _ _ [])))
