@@ -1,4 +1,4 @@
--- `probe::main` ends, and its rooms keep their sizes.
+-- `probe::main` ends, and its rooms keep their sizes. Assumes nothing.
 use Rattle.std.proofs.Common.{◌≡◌, length}
 use Rattle.probe.proofs.main.Given as goal
 

@@ -1,4 +1,4 @@
--- A read behind the room's first record leaves that record.
+-- `station::read_on`: a read behind the room's first record leaves that record. Assumes nothing.
 use Rattle.std.proofs.Common.{arith}
 use Rattle.std.proofs.lemmas.Slice.{take-put_mid_below}
 use Rattle.rules.specs.Station.{record_size}
