@@ -2,9 +2,9 @@
 // A lent slice is a pointer and its length.
 #![tactic(auto)]
 
-ghost use Rattle.std.specs.Prelude.{eqb};
+ghost use Rattle.std.specs.Prelude.{[], eqb};
 ghost use Rattle.rules.specs.Calls.{write_call, read_call, receive_call, send_call, take_call};
-ghost use Rattle.boundary.specs.Boundary.{Exports, ExportsFilling};
+ghost use Rattle.boundary.specs.Boundary.{lent, Exports, ExportsFilling};
 
 // A write of a value to the register with that number.
 #[unsafe(no_mangle)]
@@ -18,7 +18,9 @@ pub extern "C" fn valmthosh_write(
     value: u32,
     answer: &mut [u32],
 ) -> u32
-    ensures { Exports (λ m. write_call m register value) result saved send receive bytes notices answer }
+    ensures { Exports (λ m. write_call m register value) result
+        (lent saved.old send.old receive.old bytes.now notices.old [] answer.old)
+        (lent saved.new send.new receive.new bytes.now notices.new [] answer.new) }
 {
     boundary::valmthosh_write(
         saved, send, receive, bytes, notices, register, value, answer,
@@ -36,7 +38,9 @@ pub extern "C" fn valmthosh_read(
     register: u32,
     answer: &mut [u32],
 ) -> u32
-    ensures { Exports (λ m. read_call m register) result saved send receive bytes notices answer }
+    ensures { Exports (λ m. read_call m register) result
+        (lent saved.old send.now receive.now bytes.now notices.now [] answer.old)
+        (lent saved.new send.now receive.now bytes.now notices.now [] answer.new) }
 {
     boundary::valmthosh_read(saved, send, receive, bytes, notices, register, answer)
 }
@@ -52,7 +56,9 @@ pub extern "C" fn valmthosh_receive(
     packet: &[u8],
     answer: &mut [u32],
 ) -> u32
-    ensures { Exports (λ m. receive_call m packet.now) result saved send receive bytes notices answer }
+    ensures { Exports (λ m. receive_call m packet.now) result
+        (lent saved.old send.now receive.old bytes.old notices.old [] answer.old)
+        (lent saved.new send.now receive.new bytes.new notices.new [] answer.new) }
 {
     boundary::valmthosh_receive(saved, send, receive, bytes, notices, packet, answer)
 }
@@ -69,7 +75,9 @@ pub extern "C" fn valmthosh_send(
     room: &mut [u8],
     answer: &mut [u32],
 ) -> u32
-    ensures { ExportsFilling (λ m room. send_call m (eqb ready 1) room) result saved send receive bytes notices room answer }
+    ensures { ExportsFilling (λ m room. send_call m (eqb ready 1) room) result
+        (lent saved.old send.old receive.old bytes.now notices.old room.old answer.old)
+        (lent saved.new send.new receive.new bytes.now notices.new room.new answer.new) }
 {
     boundary::valmthosh_send(saved, send, receive, bytes, notices, ready, room, answer)
 }
@@ -86,7 +94,9 @@ pub extern "C" fn valmthosh_take(
     room: &mut [u32],
     answer: &mut [u32],
 ) -> u32
-    ensures { ExportsFilling (λ m room. take_call m list room) result saved send receive bytes notices room answer }
+    ensures { ExportsFilling (λ m room. take_call m list room) result
+        (lent saved.old send.now receive.old bytes.now notices.old room.old answer.old)
+        (lent saved.new send.now receive.new bytes.now notices.new room.new answer.new) }
 {
     boundary::valmthosh_take(saved, send, receive, bytes, notices, list, room, answer)
 }
