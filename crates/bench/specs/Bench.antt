@@ -1,9 +1,9 @@
 -- "Bench set", "Proved in a single table": each row is asked of whole calls, of the words, or of the check. Assumes nothing.
-use Rattle.std.specs.Prelude.{◌≡◌}
+use Rattle.std.specs.Prelude.{◌≡◌, ℕ, ◌+◌, true, false, List, [], ◌∷◌, length, get_or, take, replicate, ℤ, pos, negsuc}
 use Rattle.ground.specs.Bytes.{to_bytes}
 use Rattle.ground.specs.Signed.{signed}
 use Rattle.ground.specs.Text.{ascii}
-use Rattle.rules.specs.Types.{ℕ, ◌+◌, true, false, List, [], ◌∷◌, length, get_or, sets, take, replicate, ℤ, pos, negsuc}
+use Rattle.std.proofs.lemmas.List.Edits.{sets}
 use Rattle.rules.specs.declared.Saved.{Saved}
 use Rattle.rules.specs.Words.{is_direct_io, is_control_pkt, notifies, goes, meta_flag, meta_count, msg_size}
 use Rattle.rules.specs.Memory.{Machine, machine, slot, slot_first, list, head_word, nbqr_from, no_metadata, block, block_first}

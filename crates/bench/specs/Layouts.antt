@@ -1,10 +1,9 @@
 -- The words of document 01 by the widths that it gives, top field first: what the other files read of each stands where these widths put it,
 -- and what they make or change is packed so. Assumes nothing.
-use Rattle.std.specs.Prelude.{◌≡◌, ◌≤◌}
+use Rattle.std.specs.Prelude.{◌≡◌, ◌≤◌, ℕ, ◌+◌, not, List, [], ◌∷◌}
 use Rattle.ground.specs.Bytes.{word_at}
 use Rattle.ground.specs.Choice.{pick}
 use Rattle.ground.specs.Field.{field, bit, pack, unpack}
-use Rattle.rules.specs.Types.{ℕ, ◌+◌, not, List, [], ◌∷◌}
 use Rattle.rules.specs.declared.Saved.{Saved}
 use Rattle.rules.specs.declared.SlotIndex.{SlotIndex}
 use Rattle.rules.specs.declared.Descriptor.{Descriptor}

@@ -1,8 +1,7 @@
 -- "The station program", its sample: five records and their five lines. Assumes nothing.
-use Rattle.std.specs.Prelude.{◌≡◌}
+use Rattle.std.specs.Prelude.{◌≡◌, ℕ, List, [], ◌∷◌, ◌++◌, replicate}
 use Rattle.ground.specs.Bytes.{to_bytes}
 use Rattle.ground.specs.Text.{ascii}
-use Rattle.rules.specs.Types.{ℕ, List, [], ◌∷◌, ◌++◌, replicate}
 use Rattle.rules.specs.Station.{station}
 
 -- A record of a kind and two numbers, without a packet.

@@ -1,5 +1,5 @@
 -- What an access leaves of the saved state: what holds however a pointer moves on or a queue is read holds after it. Assumes nothing.
-use Rattle.rules.specs.Types.{List, ℕ}
+use Rattle.std.specs.Prelude.{List, ℕ}
 use Rattle.rules.specs.Memory.{send_size, receive_size}
 use Rattle.rules.specs.Saved.{with_pointers, with_nqr, with_aqr}
 use Rattle.rules.specs.Queues.{removed}

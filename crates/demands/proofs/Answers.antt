@@ -1,6 +1,6 @@
 -- How each call answers: it is carried out, it is refused on the machine as it is, or its descriptor waits. Assumes nothing.
 use mathlib.Core.Path.{◌≡◌, refl}
-use Rattle.rules.specs.Types.{ℕ, List, [], length}
+use Rattle.std.specs.Prelude.{ℕ, List, [], length}
 use Rattle.rules.specs.Memory.{Machine, with_send}
 use Rattle.rules.specs.Registers.{decode}
 use Rattle.rules.specs.Sending.{next_sender, mark_stalled}

@@ -1,6 +1,5 @@
 -- The demands, each as a statement to be read beside it. Assumes nothing.
-use Rattle.std.specs.Prelude.{◌<◌, ◌≤◌, ◌≡◌, ◌≢◌}
-use Rattle.rules.specs.Types.{ℕ, ◌%◌, ◌^◌, Bool, true, List, [], ◌++◌, length, take}
+use Rattle.std.specs.Prelude.{◌<◌, ◌≤◌, ◌≡◌, ◌≢◌, ℕ, ◌%◌, ◌^◌, Bool, true, List, [], ◌++◌, length, take}
 use Rattle.rules.specs.Memory.{Machine, with_send, descriptors, lists}
 use Rattle.rules.specs.Packet.{packet_of, well_formed}
 use Rattle.rules.specs.Sending.{descriptor_at, is_active, next_sender, mark_stalled}

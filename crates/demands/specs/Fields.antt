@@ -1,10 +1,9 @@
 -- "Packet": document 01's fields, the bytes that its layout gives for them, which fields it allows, and where the receiver and the sender have
 -- each from. The layout is made of widths and bits alone, not by the rules' own way of forming a packet. Assumes nothing.
-use Rattle.std.specs.Prelude.{◌<◌, ◌≤◌, ◌≡◌}
+use Rattle.std.specs.Prelude.{◌<◌, ◌≤◌, ◌≡◌, ℕ, ◌%◌, ◌^◌, Bool, true, false, List, [], ◌∷◌, ◌++◌, length, get_or}
 use Rattle.ground.specs.Bytes.{to_bytes}
 use Rattle.ground.specs.Choice.{pick}
 use Rattle.ground.specs.Field.{field, bit, pack}
-use Rattle.rules.specs.Types.{ℕ, ◌%◌, ◌^◌, Bool, true, false, List, [], ◌∷◌, ◌++◌, length, get_or}
 use Rattle.rules.specs.Words.{dst_node, dst_slot, src_node, uses_msg_size, uses_msg_offset, is_ack_pkt, incarnation, offset, meta_flag, meta_count, msg_size}
 use Rattle.rules.specs.Memory.{Machine, no_metadata}
 use Rattle.rules.specs.Saved.{own_node}

@@ -1,7 +1,6 @@
 -- What the history of a run says: receipts answered, blocks handed over, notices posted and taken. Assumes nothing.
-use Rattle.std.specs.Prelude.{◌≡◌, ◌≢◌}
+use Rattle.std.specs.Prelude.{◌≡◌, ◌≢◌, ℕ, true, List, [], ◌∷◌, ◌++◌, eqb}
 use Rattle.ground.specs.Choice.{pick}
-use Rattle.rules.specs.Types.{ℕ, true, List, [], ◌∷◌, ◌++◌, eqb}
 use Rattle.rules.specs.Memory.{Machine}
 use Rattle.rules.specs.Saved.{resets}
 use Rattle.rules.specs.Registers.{pcsr0_number}

@@ -1,8 +1,7 @@
 -- Where blocks stand: waiting, at the empty end of a list, as an untaken notice of a list. Assumes nothing.
-use Rattle.std.specs.Prelude.{map}
+use Rattle.std.specs.Prelude.{map, ℕ, zero, suc, ◌+◌, ◌/◌, Bool, ◌||◌, List, [], ◌∷◌, ◌++◌, eqb, length, get_or}
 use Rattle.ground.specs.Choice.{pick}
 use Rattle.ground.specs.Field.{bit}
-use Rattle.rules.specs.Types.{ℕ, zero, suc, ◌+◌, ◌/◌, Bool, ◌||◌, List, [], ◌∷◌, ◌++◌, eqb, length, get_or}
 use Rattle.rules.specs.Memory.{Machine, block_size, lists, list, block, nbqr_from, next_of}
 use Rattle.rules.specs.Queues.{entry_word}
 use Rattle.rules.specs.Notices.{head_of, place_of}

@@ -1,6 +1,6 @@
 -- Runs of calls, and what each call does to blocks and notices, by its own verdict. Assumes nothing.
 use Rattle.ground.specs.Choice.{pick}
-use Rattle.rules.specs.Types.{ℕ, List, eqb, length, get_or}
+use Rattle.std.specs.Prelude.{ℕ, List, eqb, length, get_or}
 use Rattle.rules.specs.Memory.{Machine, with_bytes, metadata_at}
 use Rattle.rules.specs.Receipt.{receipt_posting}
 use Rattle.rules.specs.Sending.{descriptor_at, send_posting}

@@ -1,5 +1,6 @@
 -- The notice board: what queues, postings and takes change of a machine, with the interrupts summed so far. Assumes nothing.
-use Rattle.rules.specs.Types.{ℕ, List, Saved}
+use Rattle.std.specs.Prelude.{ℕ, List}
+use Rattle.rules.specs.Types.{Saved}
 use Rattle.rules.specs.Memory.{Machine, machine}
 
 -- The saved state, Receive RAM, notice memory, and the interrupts.

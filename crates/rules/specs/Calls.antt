@@ -1,7 +1,7 @@
 -- The five calls and the unknown one: each is judged, refusals in the order of the reply table ("Order as listed"), and then acts. Assumes nothing.
 use Rattle.ground.specs.Choice.{pick, need}
 use Rattle.ground.specs.Lists.{part, over}
-use Rattle.rules.specs.Types.{ℕ, Bool, not, ◌&&◌, ◌||◌, List, [], eqb, ltb, leb, length, get_or}
+use Rattle.std.specs.Prelude.{ℕ, Bool, not, ◌&&◌, ◌||◌, List, [], eqb, ltb, leb, length, get_or}
 use Rattle.rules.specs.Types.{BlockAddress, DescriptorIndex, Refusal, Sizes, Unsound, NoRegister, BadValue, Off, Short, NoPacket, Empty, Full, Quiet, Stalled, Fabric}
 use Rattle.rules.specs.Types.{Reply, Mapped, Reach, Shown, Writing, Receipt, Receiving, Found, Sending, Taking}
 use Rattle.rules.specs.Memory.{Machine, with_saved, with_send, with_receive, lists, list, block, block_size, block_first, is_block, next_of}

@@ -1,6 +1,7 @@
 -- "Both are CRC-16, polynomial 0x1021, start 0xFFFF, unreflected, no final exclusive-or (H)", by bit steps. Assumes nothing.
 use Rattle.std.specs.Int.Bits.{bit_xor}
-use Rattle.rules.specs.Types.{ℕ, zero, suc, ◌*◌, ◌/◌, ◌%◌, List, foldl}
+use Rattle.std.specs.Prelude.{ℕ, zero, suc, ◌*◌, ◌/◌, ◌%◌, List}
+use mathlib.Core.List.{foldl}
 
 -- "polynomial 0x1021".
 abbrev pub polynomial : ℕ

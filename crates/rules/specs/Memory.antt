@@ -1,6 +1,6 @@
 -- "Memories and numbers": the memories' sizes, where their words stand, what each word is, and block addresses. Assumes nothing.
 use Rattle.ground.specs.Choice.{pick}
-use Rattle.rules.specs.Types.{ℕ, ◌+◌, ◌-◌, ◌*◌, ◌/◌, ◌%◌, Bool, ◌&&◌, ◌||◌, List, [], ◌∷◌, eqb, ltb, leb, length, get_or}
+use Rattle.std.specs.Prelude.{ℕ, ◌+◌, ◌-◌, ◌*◌, ◌/◌, ◌%◌, Bool, ◌&&◌, ◌||◌, List, [], ◌∷◌, eqb, ltb, leb, length, get_or}
 use Rattle.rules.specs.Types.{Saved, SlotIndex, ListIndex, BlockAddress, DescriptorIndex, Metadata, SendPart, ReceivePart}
 
 -- ---- the machine: the saved state and the four lent memories

@@ -1,7 +1,8 @@
 -- "Notices and interrupts": what a notice says, when it can be posted, the one posting, and the take. Assumes nothing.
 use Rattle.ground.specs.Choice.{pick}
 use Rattle.ground.specs.Field.{field, flag, bit}
-use Rattle.rules.specs.Types.{ℕ, ◌+◌, ◌*◌, ◌^◌, Bool, true, not, ◌&&◌, ◌||◌, List, ◌∷◌, eqb, get_or, set, sets}
+use Rattle.std.specs.Prelude.{ℕ, ◌+◌, ◌*◌, ◌^◌, Bool, true, not, ◌&&◌, ◌||◌, List, ◌∷◌, eqb, get_or, set}
+use Rattle.std.proofs.lemmas.List.Edits.{sets}
 use Rattle.rules.specs.Types.{Queue, Saved, SlotIndex, ListIndex, BlockAddress, Metadata, Notice, Posting}
 use Rattle.rules.specs.Words.{slot_and_source}
 use Rattle.rules.specs.Memory.{list, block, head_word, token_word, place_word, nqr_from, aqr_from, nbqr_from, no_metadata, metadata_words, block_first, next_word}

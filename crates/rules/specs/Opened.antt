@@ -17,7 +17,7 @@ use Rattle.rules.specs.Slots.{slot_at, store_slot, within24, slot_ok}
 use Rattle.rules.specs.Sound.{registers_ok, queues_ok, heads_ok, places_ok, waiting_ok, descriptor_ok, descriptors_ok, sound_ok}
 use Rattle.rules.specs.Station.{kind_of, record_packet, call_of, line_of, zero_machine, first_machine, record_line, lines_from, station}
 use Rattle.rules.specs.Writes.{judge_send_word, judge_receive_word, judge_register, judge_reached, bits_cleared, number_set, send_stored, receive_stored, clear_descriptors, reset}
-use Rattle.rules.specs.Types.{ℕ}
+use Rattle.std.specs.Prelude.{ℕ}
 
 -- A name to say so; its value means nothing.
 unfoldable pub every_rule : ℕ

@@ -2,7 +2,8 @@
 use Rattle.ground.specs.Bytes.{word_at, to_bytes}
 use Rattle.ground.specs.Choice.{pick}
 use Rattle.ground.specs.Lists.{part}
-use Rattle.rules.specs.Types.{ℕ, ◌-◌, ◌*◌, ◌%◌, ◌^◌, Bool, not, ◌&&◌, ◌||◌, List, [], ◌∷◌, ◌++◌, eqb, leb, length, take, Metadata, Header, Packet}
+use Rattle.std.specs.Prelude.{ℕ, ◌-◌, ◌*◌, ◌%◌, ◌^◌, Bool, not, ◌&&◌, ◌||◌, List, [], ◌∷◌, ◌++◌, eqb, leb, length, take}
+use Rattle.rules.specs.Types.{Metadata, Header, Packet}
 use Rattle.rules.specs.Words.{zero_low, zero_top, is_ack_pkt, reserved_bit, meta_flag, meta_ok, check_half, zero_half}
 use Rattle.rules.specs.Memory.{no_metadata, metadata_words}
 use Rattle.rules.specs.Checksum.{check_of}

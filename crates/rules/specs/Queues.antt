@@ -1,6 +1,7 @@
 -- The three queues: one push and one removal for NQR, AQR and NBQR. Each is told by the word from which its entries stand. Assumes nothing.
 use Rattle.ground.specs.Choice.{pick}
-use Rattle.rules.specs.Types.{ℕ, ◌+◌, ◌-◌, ◌%◌, Bool, List, eqb, ltb, get_or, set, Queue}
+use Rattle.std.specs.Prelude.{ℕ, ◌+◌, ◌-◌, ◌%◌, Bool, List, eqb, ltb, get_or, set}
+use Rattle.rules.specs.Types.{Queue}
 use Rattle.rules.specs.Memory.{queue_size}
 
 -- "A queue's entries stand from its place on, going round after 255": where entry k stands.

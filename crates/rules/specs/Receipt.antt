@@ -2,7 +2,8 @@
 -- Assumes nothing.
 use Rattle.ground.specs.Choice.{pick, need}
 use Rattle.ground.specs.Signed.{signed, unsigned, is_zero}
-use Rattle.rules.specs.Types.{ℕ, ◌+◌, ◌^◌, Bool, true, false, not, ◌&&◌, ◌||◌, List, eqb, ltb, leb, sets, ℤ, pos, ◌+ℤ◌, ◌-ℤ◌}
+use Rattle.std.specs.Prelude.{ℕ, ◌+◌, ◌^◌, Bool, true, false, not, ◌&&◌, ◌||◌, List, eqb, ltb, leb, ℤ, pos, ◌+ℤ◌, ◌-ℤ◌}
+use Rattle.std.proofs.lemmas.List.Edits.{sets}
 use Rattle.rules.specs.Types.{Saved, SlotIndex, Slot, Header, Packet, Notice, Posting, Receipt}
 use Rattle.rules.specs.Types.{Fault, HeaderCheck, Fields, Node, SlotAboveCount, SlotNotValid, Incarnation, OffsetAbove, Beyond, BodyCheck}
 use Rattle.rules.specs.Words.{dst_node, dst_slot, src_node, uses_msg_size, uses_msg_offset, is_ack_pkt, incarnation, offset, meta_flag, meta_part, msg_size}

@@ -1,7 +1,8 @@
 -- "Registers": the map, what an access reaches, PCSR1, and what a read shows. Assumes nothing.
 use Rattle.ground.specs.Choice.{pick}
 use Rattle.ground.specs.Field.{bit, flag}
-use Rattle.rules.specs.Types.{ℕ, ◌+◌, ◌-◌, ◌*◌, ◌/◌, ◌%◌, ◌^◌, Bool, not, ◌&&◌, List, eqb, ltb, leb, Saved, NoRegister, Register, Mapped, Reach, Shown}
+use Rattle.std.specs.Prelude.{ℕ, ◌+◌, ◌-◌, ◌*◌, ◌/◌, ◌%◌, ◌^◌, Bool, not, ◌&&◌, List, eqb, ltb, leb}
+use Rattle.rules.specs.Types.{Saved, NoRegister, Register, Mapped, Reach, Shown}
 use Rattle.rules.specs.Memory.{send_size, receive_size, nqr_from, aqr_from}
 use Rattle.rules.specs.Saved.{with_pointers, with_nqr, with_aqr}
 use Rattle.rules.specs.Queues.{is_empty, has_room, oldest, removed}

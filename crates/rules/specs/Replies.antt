@@ -1,6 +1,7 @@
 -- "Replies": their numbers and values, and all that a call gives. Assumes nothing.
 use Rattle.ground.specs.Text.{ascii}
-use Rattle.rules.specs.Types.{ℕ, List, [], ◌∷◌, Refusal, Sizes, Unsound, NoRegister, ReadOnly, Active, BadValue, Off, Short, NoPacket, Empty, Full, Quiet, Stalled, Fabric, Reply, Answer}
+use Rattle.std.specs.Prelude.{ℕ, List, [], ◌∷◌}
+use Rattle.rules.specs.Types.{Refusal, Sizes, Unsound, NoRegister, ReadOnly, Active, BadValue, Off, Short, NoPacket, Empty, Full, Quiet, Stalled, Fabric, Reply, Answer}
 use Rattle.rules.specs.Memory.{Machine, machine}
 use Rattle.rules.specs.Board.{Effect, silently}
 

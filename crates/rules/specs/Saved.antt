@@ -1,6 +1,7 @@
 -- The saved state: its parts set one at a time, PCSR0's fields, and what a reset leaves of it. Assumes nothing.
 use Rattle.ground.specs.Field.{field, flag}
-use Rattle.rules.specs.Types.{ℕ, ◌+◌, ◌%◌, ◌^◌, Bool, ◌&&◌, eqb, leb, Queue, Saved}
+use Rattle.std.specs.Prelude.{ℕ, ◌+◌, ◌%◌, ◌^◌, Bool, ◌&&◌, eqb, leb}
+use Rattle.rules.specs.Types.{Queue, Saved}
 
 -- ---- set one at a time
 

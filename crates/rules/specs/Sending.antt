@@ -3,7 +3,8 @@ use Rattle.ground.specs.Bytes.{to_bytes}
 use Rattle.ground.specs.Choice.{pick, all_below}
 use Rattle.ground.specs.Field.{field, flag, without, with_field}
 use Rattle.ground.specs.Lists.{part}
-use Rattle.rules.specs.Types.{ℕ, zero, suc, ◌+◌, ◌-◌, ◌/◌, ◌%◌, min, Bool, not, ◌&&◌, ◌||◌, List, [], ◌∷◌, eqb, ltb, leb, get_or, set, sets}
+use Rattle.std.specs.Prelude.{ℕ, zero, suc, ◌+◌, ◌-◌, ◌/◌, ◌%◌, min, Bool, not, ◌&&◌, ◌||◌, List, [], ◌∷◌, eqb, ltb, leb, get_or, set}
+use Rattle.std.proofs.lemmas.List.Edits.{sets}
 use Rattle.rules.specs.Types.{Saved, DescriptorIndex, Descriptor, Header, Posting, Found}
 use Rattle.rules.specs.Words.{most24, note_index, dst_slot, slot_and_source, is_ack_pkt, reserved_bit, offset, is_direct_io, is_control_pkt, notifies, goes, meta_flag, msg_size, meta_ok}
 use Rattle.rules.specs.Memory.{descriptors, descriptor, descriptor_first, descriptor_word, direct_from, direct_to, lists, list, metadata_at}

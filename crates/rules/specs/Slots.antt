@@ -1,7 +1,9 @@
 -- "Receipt", a slot: its words, and when it is valid. Assumes nothing.
 use Rattle.ground.specs.Field.{field, flag}
 use Rattle.ground.specs.Signed.{signed}
-use Rattle.rules.specs.Types.{ℕ, ◌+◌, Bool, not, ◌&&◌, ◌||◌, List, [], ◌∷◌, eqb, ltb, leb, get_or, sets, ℤ, nat_abs, SlotIndex, Metadata, Slot}
+use Rattle.std.specs.Prelude.{ℕ, ◌+◌, Bool, not, ◌&&◌, ◌||◌, List, [], ◌∷◌, eqb, ltb, leb, get_or, ℤ, nat_abs}
+use Rattle.std.proofs.lemmas.List.Edits.{sets}
+use Rattle.rules.specs.Types.{SlotIndex, Metadata, Slot}
 use Rattle.rules.specs.Words.{most24, meta_part}
 use Rattle.rules.specs.Memory.{slot_first, slot_word, lists, metadata_at}
 

@@ -1,6 +1,7 @@
 -- Replies 13 and 14: which memories have their sizes, and which machines are sound. Assumes nothing.
 use Rattle.ground.specs.Choice.{all_below}
-use Rattle.rules.specs.Types.{ℕ, Bool, not, ◌&&◌, ◌||◌, List, ltb, leb, length, get_or, Queue, Saved, Descriptor}
+use Rattle.std.specs.Prelude.{ℕ, Bool, not, ◌&&◌, ◌||◌, List, ltb, leb, length, get_or}
+use Rattle.rules.specs.Types.{Queue, Saved, Descriptor}
 use Rattle.rules.specs.Memory.{Machine, send_size, receive_size, sizes_ok, descriptors, descriptor, slots_most, lists, list, queue_size, nbqr_from, is_block, is_block_or_none}
 use Rattle.rules.specs.Saved.{resets, pcsr0_ok}
 use Rattle.rules.specs.Queues.{entry_word}

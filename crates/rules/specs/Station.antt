@@ -3,7 +3,7 @@ use Rattle.ground.specs.Bytes.{word_at}
 use Rattle.ground.specs.Choice.{pick}
 use Rattle.ground.specs.Lists.{part}
 use Rattle.ground.specs.Text.{ascii, hexadecimal, decimal}
-use Rattle.rules.specs.Types.{ℕ, zero, suc, List, [], ◌∷◌, ◌++◌, eqb, leb, length, get_or, take, drop, replicate}
+use Rattle.std.specs.Prelude.{ℕ, zero, suc, List, [], ◌∷◌, ◌++◌, eqb, leb, length, get_or, take, drop, replicate}
 use Rattle.rules.specs.Memory.{Machine, machine, send_size, receive_size, data_most, notices_most, block_size}
 use Rattle.rules.specs.Saved.{reset_saved}
 use Rattle.rules.specs.Registers.{pcsr0_number}

@@ -1,7 +1,4 @@
--- The types of src/lib.rt and the library's names that most files use, passed on under one name. Assumes nothing.
-pub use Rattle.std.specs.Prelude.{ℕ, zero, suc, ◌+◌, ◌-◌, ◌*◌, ◌/◌, ◌%◌, ◌^◌, min, Bool, true, false, not, ◌&&◌, ◌||◌, eqb, ltb, leb, length, get_or, set, take, drop, replicate, ℤ, pos, negsuc, nat_abs, ◌+ℤ◌, ◌-ℤ◌}
-pub use mathlib.Core.List.{List, [], ◌∷◌, ◌++◌, foldl}
-pub use Rattle.std.proofs.lemmas.List.Edits.{sets}
+-- The types of src/lib.rt, passed on under one name. Assumes nothing.
 pub use Rattle.rules.specs.declared.Queue.{Queue}
 pub use Rattle.rules.specs.declared.Saved.{Saved}
 pub use Rattle.rules.specs.declared.SlotIndex.{SlotIndex}

@@ -1,7 +1,7 @@
 -- "the first named field takes the top bits": the words that descriptors, slots, packets and notices share, with the bits of each field, 31
 -- the top. Layouts.antt holds them against document 01's widths. Assumes nothing.
 use Rattle.ground.specs.Field.{field, flag}
-use Rattle.rules.specs.Types.{ℕ, ◌+◌, ◌*◌, ◌^◌, Bool, ◌&&◌, ◌||◌, eqb, leb}
+use Rattle.std.specs.Prelude.{ℕ, ◌+◌, ◌*◌, ◌^◌, Bool, ◌&&◌, ◌||◌, eqb, leb}
 
 -- The greatest number of 24 bits, 16,777,215.
 abbrev pub most24 : ℕ

@@ -1,7 +1,8 @@
 -- "Registers", writes: what each word takes, and what a write that is carried out stores. Assumes nothing.
 use Rattle.ground.specs.Choice.{pick, need}
 use Rattle.ground.specs.Lists.{over}
-use Rattle.rules.specs.Types.{ℕ, Bool, not, ◌&&◌, ◌||◌, List, [], ◌∷◌, ◌++◌, eqb, leb, length, set, sets, replicate}
+use Rattle.std.specs.Prelude.{ℕ, Bool, not, ◌&&◌, ◌||◌, List, [], ◌∷◌, ◌++◌, eqb, leb, length, set, replicate}
+use Rattle.std.proofs.lemmas.List.Edits.{sets}
 use Rattle.rules.specs.Types.{Saved, ReadOnly, Active, BadValue, Full, Register, Reach, SendPart, ReceivePart, Number, SendStore, ReceiveStore, Writing}
 use Rattle.rules.specs.Words.{goes, msg_size}
 use Rattle.rules.specs.Memory.{Machine, machine, send_size, receive_size, slots_most, block, descriptor_word, slot_word, head_word, token_word, place_word, send_part, receive_part, is_free_block}

@@ -1,8 +1,8 @@
 -- A run worked out, so that no premise is empty: two blocks are handed over, a fault is posted on list 0, found there and taken; and a packet, sent
 -- by a descriptor that is active and received by the node that it is for. Assumes nothing.
-use Rattle.std.specs.Prelude.{◌≤◌, ◌≡◌}
+use Rattle.std.specs.Prelude.{◌≤◌, ◌≡◌, ℕ, ◌^◌, true, List, [], ◌∷◌, take, replicate}
 use Rattle.ground.specs.Bytes.{to_bytes}
-use Rattle.rules.specs.Types.{ℕ, ◌^◌, true, List, [], ◌∷◌, sets, take, replicate}
+use Rattle.std.proofs.lemmas.List.Edits.{sets}
 use Rattle.rules.specs.Memory.{Machine, machine, descriptor, slot, slot_first}
 use Rattle.rules.specs.Saved.{with_slots, with_last_sender, reset_saved}
 use Rattle.rules.specs.Sending.{descriptor_at, is_active}
