@@ -28,14 +28,14 @@ loop-count-smaller c =
 -- Some bytes came, so the next turn can go on.
 pub loop-count-preserved : goal.loop-count-preserved
 loop-count-preserved c = (
-    search rules,
-    search rules,
-    search rules,
-    search rules,
-    search rules,
-    search rules,
-    search rules,
-    search rules,
-    search rules,
-    c.turn-next.ensures.turned.goes_on (omega (arith, length_part record_size c.in_ok-n.n c.read_on.new.input c.in_ok-n.ensures.result_in_bounds, c.if-n-eq0.false)),
-  )
+  search rules,
+  search rules,
+  search rules,
+  search rules,
+  search rules,
+  search rules,
+  search rules,
+  search rules,
+  search rules,
+  c.turn-next.ensures.turned.goes_on (omega (arith, length_part record_size c.in_ok-n.n c.read_on.new.input c.in_ok-n.ensures.result_in_bounds, c.if-n-eq0.false)),
+)
