@@ -15,6 +15,7 @@ fn put_bytes(out: &mut [u8], at: usize, word: &[u8]) -> usize
 }
 
 // The word of a refusal.
+#[tactic(auto, using(crate::proofs::Lines::of_refusal), unfolding(rules::specs::Replies::reply_words, ground::specs::Text::ascii))]
 fn put_refusal(out: &mut [u8], at: usize, why: Refusal) -> usize
     requires { at + 11 ≤ length out.old }
     ensures { Written (get_or reply_words (refusal_number why) []) at out.old out.new result }
@@ -38,6 +39,7 @@ fn put_refusal(out: &mut [u8], at: usize, why: Refusal) -> usize
 }
 
 // The word of a reply.
+#[tactic(auto, using(crate::proofs::Lines::of_reply), unfolding(rules::specs::Replies::reply_words, ground::specs::Text::ascii))]
 pub(crate) fn put_word(out: &mut [u8], at: usize, reply: Reply) -> usize
     requires { at + 11 ≤ length out.old }
     ensures { Written (get_or reply_words (reply_number reply) []) at out.old out.new result }

@@ -9,7 +9,7 @@ use rules::Saved;
 pub use taking::{act_take, judge_take};
 
 // The saved state after a step, and the interrupts that the step raised, summed.
-#[derive(Drop)]
+#[derive(Clone, Copy)]
 pub struct Step {
     pub saved: Saved,
     pub interrupts: u32,

@@ -24,7 +24,7 @@ fn can_post(s: Saved, receive: &[u32], l: ListIndex) -> bool
 }
 
 // A queue after a push, its interrupt bit, and the interrupt.
-#[derive(Drop)]
+#[derive(Clone, Copy)]
 struct Pushed {
     queue: Queue,
     bit: u32,
@@ -155,6 +155,7 @@ fn post(l: ListIndex, n: Notice, s: Saved, receive: &mut [u32], notices: &mut [u
 }
 
 // Whether what a call has to post can be posted.
+#[tactic(auto, unfolding(rules::specs::Notices::can_post_all))]
 pub fn can_post_all(s: Saved, receive: &[u32], p: Posting) -> bool
     requires { Listed p × (length receive.now ≡ receive_size) }
     ensures { result ≡ can_post_all s receive.now p }

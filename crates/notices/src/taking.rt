@@ -60,6 +60,7 @@ pub fn judge_take(
 }
 
 // The reader's place moves on to the next, the block's next goes to 0, and the block back to NBQR.
+#[tactic(auto, using(crate::proofs::Steps::taken))]
 fn take_block(
     l: ListIndex,
     b: BlockAddress,

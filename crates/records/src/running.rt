@@ -10,7 +10,7 @@ use rules::Saved;
 use rules::sizes::RECORD_SIZE;
 
 // The saved state after a record or more, and the place after their lines.
-#[derive(Drop)]
+#[derive(Clone, Copy)]
 pub struct Progress {
     pub saved: Saved,
     pub next: usize,

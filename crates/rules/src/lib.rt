@@ -7,14 +7,14 @@ pub use queues::Removal;
 // ---- the saved state
 
 // A queue of 256 words of Receive RAM: the place of its oldest entry, and how many entries wait.
-#[derive(Drop)]
+#[derive(Clone, Copy)]
 pub struct Queue {
     pub place: u32,
     pub length: u32,
 }
 
 // Fifteen numbers, any value: registers, the two interrupt bits, three queues, the last sender.
-#[derive(Drop)]
+#[derive(Clone, Copy)]
 pub struct Saved {
     pub pcsr0: u32,
     pub inthi: u32,
@@ -33,25 +33,25 @@ pub struct Saved {
 // ---- what names a thing: a value of one kind never stands for another
 
 // A slot by dst_slot.
-#[derive(Drop)]
+#[derive(Clone, Copy)]
 pub struct SlotIndex(pub u32);
 
 // A list by note_index.
-#[derive(Drop)]
+#[derive(Clone, Copy)]
 pub struct ListIndex(pub u32);
 
 // A block of notice memory by its address.
-#[derive(Drop)]
+#[derive(Clone, Copy)]
 pub struct BlockAddress(pub u32);
 
 // A send descriptor by its number.
-#[derive(Drop)]
+#[derive(Clone, Copy)]
 pub struct DescriptorIndex(pub u32);
 
 // ---- descriptors, slots, packets, notices
 
 // Four metadata words.
-#[derive(Drop)]
+#[derive(Clone, Copy)]
 pub struct Metadata {
     pub a: u32,
     pub b: u32,
@@ -60,7 +60,7 @@ pub struct Metadata {
 }
 
 // A descriptor's words 0 to 6 and 8 to 11. (address1 is document 003's name for dst_slot with note_index.)
-#[derive(Drop)]
+#[derive(Clone, Copy)]
 pub struct Descriptor {
     pub msgaddress: u32,
     pub address0: u32,
@@ -73,7 +73,7 @@ pub struct Descriptor {
 }
 
 // A slot's sixteen words; no rule reads words 12 to 15 (lock, mark, namea, nameb).
-#[derive(Drop)]
+#[derive(Clone, Copy)]
 pub struct Slot {
     pub base: u32,
     pub size: u32,
@@ -91,7 +91,7 @@ pub struct Slot {
 }
 
 // A packet's words 0 to 3. (address1 and control1 are document 003's names for words 1 and 3.)
-#[derive(Drop)]
+#[derive(Clone, Copy)]
 pub struct Header {
     pub address0: u32,
     pub address1: u32,
@@ -101,7 +101,7 @@ pub struct Header {
 
 // What receipt looks at of a packet besides its two checks and the payload's bytes: words 0 to 3, the zero half of word 4, the
 // metadata (zeros without the flag), the packet's length and its payload's length, both in bytes.
-#[derive(Drop)]
+#[derive(Clone, Copy)]
 pub struct Packet {
     pub header: Header,
     pub zerohalf: u32,
@@ -111,7 +111,7 @@ pub struct Packet {
 }
 
 // A notice: the words of its block without the next.
-#[derive(Drop)]
+#[derive(Clone, Copy)]
 pub struct Notice {
     pub word0: u32,
     pub word1: u32,
@@ -120,7 +120,7 @@ pub struct Notice {
 }
 
 // What a call has to post: nothing, or a notice on a list.
-#[derive(Drop)]
+#[derive(Clone, Copy)]
 pub enum Posting {
     Silent,
     On(ListIndex, Notice),
@@ -129,7 +129,7 @@ pub enum Posting {
 // ---- replies
 
 // Why a call is refused, in the order of the reply table.
-#[derive(Drop)]
+#[derive(Clone, Copy)]
 pub enum Refusal {
     Sizes,
     Unsound,
@@ -148,7 +148,7 @@ pub enum Refusal {
 }
 
 // What a call replies: done with a value, a fault with its status, or a refusal.
-#[derive(Drop)]
+#[derive(Clone, Copy)]
 pub enum Reply {
     Done(u32),
     Fault(u32),
@@ -156,7 +156,7 @@ pub enum Reply {
 }
 
 // What a call answers, besides what the lent memories and rooms then hold.
-#[derive(Drop)]
+#[derive(Clone, Copy)]
 pub struct Answer {
     pub reply: Reply,
     pub interrupts: u32,
@@ -166,7 +166,7 @@ pub struct Answer {
 // ---- registers
 
 // The registers that stand for themselves.
-#[derive(Drop)]
+#[derive(Clone, Copy)]
 pub enum Register {
     Pcsr0,
     Pcsr1,
@@ -183,7 +183,7 @@ pub enum Register {
 
 // What a register number means: a register itself, the word at a pointer (a step moves the pointer on), a descriptor word by its
 // number in Send RAM, a page's low byte, or nothing.
-#[derive(Drop)]
+#[derive(Clone, Copy)]
 pub enum Mapped {
     Single(Register),
     SendWord,
@@ -197,7 +197,7 @@ pub enum Mapped {
 }
 
 // What an access reaches: a register itself, or a word of a RAM by its number; or why it is refused.
-#[derive(Drop)]
+#[derive(Clone, Copy)]
 pub enum Reach {
     No(Refusal),
     Itself(Register),
@@ -206,21 +206,21 @@ pub enum Reach {
 }
 
 // A word that is read, and the saved state after that.
-#[derive(Drop)]
+#[derive(Clone, Copy)]
 pub struct Shown {
     pub word: u32,
     pub saved: Saved,
 }
 
 // What a word of Send RAM is: a descriptor's word, or a word of DIO by its number.
-#[derive(Drop)]
+#[derive(Clone, Copy)]
 pub enum SendPart {
     OfDescriptor(DescriptorIndex, u32),
     Direct(u32),
 }
 
 // What a word of Receive RAM is: a slot's word, a list's head or token, or one that no write is addressed to.
-#[derive(Drop)]
+#[derive(Clone, Copy)]
 pub enum ReceivePart {
     OfSlot(SlotIndex, u32),
     Head(ListIndex),
@@ -231,7 +231,7 @@ pub enum ReceivePart {
 // ---- the verdicts: what a call will do, once it is judged, or why it is refused
 
 // A number of the saved state that a write stores.
-#[derive(Drop)]
+#[derive(Clone, Copy)]
 pub enum Number {
     Pcsr0,
     InterruptBits,
@@ -241,7 +241,7 @@ pub enum Number {
 }
 
 // What a write stores in Send RAM: a word of DIO, a descriptor's word, or a control1 word with go 1.
-#[derive(Drop)]
+#[derive(Clone, Copy)]
 pub enum SendStore {
     DirectWord(u32),
     Word(DescriptorIndex, u32),
@@ -249,7 +249,7 @@ pub enum SendStore {
 }
 
 // What a write stores in Receive RAM: a slot's word 0, 1 or 6, a slot's word 2, a list's first block, a list's token.
-#[derive(Drop)]
+#[derive(Clone, Copy)]
 pub enum ReceiveStore {
     SlotWord(SlotIndex, u32),
     SlotWord2(SlotIndex),
@@ -258,7 +258,7 @@ pub enum ReceiveStore {
 }
 
 // What a write does: a reset, a number of the saved state set, a block handed to NBQR, a word of Send RAM or of Receive RAM stored.
-#[derive(Drop)]
+#[derive(Clone, Copy)]
 pub enum Writing {
     No(Refusal),
     Reset,
@@ -269,7 +269,7 @@ pub enum Writing {
 }
 
 // Why a packet fails: the steps of receipt by their status, in the table's order; bytes_to_go beyond its range has the payload's.
-#[derive(Drop)]
+#[derive(Clone, Copy)]
 pub enum Fault {
     HeaderCheck,
     Fields,
@@ -283,7 +283,7 @@ pub enum Fault {
 }
 
 // What a packet comes to by the steps of receipt: a fault; an ack for a slot, or data that lands in one, with the slot as it was judged.
-#[derive(Drop)]
+#[derive(Clone, Copy)]
 pub enum Receipt {
     Fails(Fault),
     Acks(SlotIndex, Slot),
@@ -291,21 +291,21 @@ pub enum Receipt {
 }
 
 // What a receive does: the packet as it was read, and what it comes to, a fault too.
-#[derive(Drop)]
+#[derive(Clone, Copy)]
 pub enum Receiving {
     No(Refusal),
     ComesTo(Packet, Receipt),
 }
 
 // The first ready descriptor, or none.
-#[derive(Drop)]
+#[derive(Clone, Copy)]
 pub enum Found {
     At(DescriptorIndex),
     Nothing,
 }
 
 // What a send does: a descriptor sends, or is marked stalled since the fabric is not ready.
-#[derive(Drop)]
+#[derive(Clone, Copy)]
 pub enum Sending {
     No(Refusal),
     Sends(DescriptorIndex),
@@ -313,14 +313,14 @@ pub enum Sending {
 }
 
 // What a take does: from this list, of this block, with this next.
-#[derive(Drop)]
+#[derive(Clone, Copy)]
 pub enum Taking {
     No(Refusal),
     Takes(ListIndex, BlockAddress, BlockAddress),
 }
 
 // Whether the rows sizes and unsound let a call go on.
-#[derive(Drop)]
+#[derive(Clone, Copy)]
 pub enum Verdict {
     Go,
     No(Refusal),

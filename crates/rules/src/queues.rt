@@ -7,7 +7,7 @@ use crate::Queue;
 use crate::sizes::QUEUE_SIZE;
 
 // A queue's oldest entry, and the queue without it.
-#[derive(Drop)]
+#[derive(Clone, Copy)]
 pub struct Removal {
     pub word: u32,
     pub queue: Queue,

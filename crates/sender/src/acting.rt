@@ -10,7 +10,7 @@ use rules::{Answer, DescriptorIndex, Posting, Refusal, Reply, Saved, Sending};
 use tables::{descriptor_at, store_descriptor};
 
 // A packet that was formed: its length, and what it posts.
-#[derive(Drop)]
+#[derive(Clone, Copy)]
 struct Sent {
     length: u32,
     posting: Posting,

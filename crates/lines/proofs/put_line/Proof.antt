@@ -14,18 +14,18 @@ put_line_spec =
     (λ c κs. search rules)
     (λ c κs. search rules)
     (λ c κs.
-    let word = c.before.before.before.before in
-    let kind = word.before.before.before.before in
-    omega (arith, length_word (reply_number kind.before.before.before.args.reply), word.put_word.ensures.ends, kind.put-decimal.ensures.1))
+    let word = c in
+    let kind = word in
+    omega (arith, length_word (reply_number kind.args.reply), word.put_word-word_end.ensures.ends, kind.put_decimal-kind_end.ensures.1))
     (λ c κs.
-    let value = c.before.before.before in
-    let word = value.before.before.before.before.before in
-    let kind = word.before.before.before.before in
-    omega (arith, length_word (reply_number kind.before.before.before.args.reply), value.put-hexadecimal.ensures.1, word.put_word.ensures.ends, kind.put-decimal.ensures.1))
+    let value = c in
+    let word = value in
+    let kind = word in
+    omega (arith, length_word (reply_number kind.args.reply), value.put_hexadecimal-value_end.ensures.1, word.put_word-word_end.ensures.ends, kind.put_decimal-kind_end.ensures.1))
     (λ c. search rules)
     (λ c.
-    let value = c.before.before.before.before.before.before in
-    let word = value.before.before.before.before.before in
-    let kind = word.before.before.before.before in
-    rw (← value.before.value_of_lem.ensures)
-    (line _ _ _ _ kind.put-decimal.ensures word.put_word.ensures value.put-hexadecimal.ensures c.before.before.put-decimal2.ensures)))
+    let value = c in
+    let word = value in
+    let kind = word in
+    rw (← value.value_of.ensures)
+    (line _ _ _ _ kind.put_decimal-kind_end.ensures word.put_word-word_end.ensures value.put_hexadecimal-value_end.ensures c.put_decimal.ensures)))

@@ -19,7 +19,7 @@ finish_spec =
     (λ c.
     let number = c.before in
     record {
-      number = number.number_of_lem.ensures;
+      number = number.number_of.ensures;
       saved = number.before.before.before.store.ensures;
-      answer = rw (← number.number_of_lem.ensures, ← c.value_of_lem.ensures);
+      answer = rw (← number.number_of.ensures, ← c.value_of.ensures);
     }))

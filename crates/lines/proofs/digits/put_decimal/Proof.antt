@@ -14,9 +14,9 @@ put_decimal_spec =
     (λ c. search rules)
     (λ c. search rules)
     (λ c.
-    let copied = c.before.before in
-    let one = copied.before.before.before in
-    put_one _ _ one.before.if1.true one.last-decimal.ensures copied.copy.ensures)
+    let copied = c in
+    let one = copied in
+    put_one _ _ one.if-n-lt10.true one.last_decimal.ensures copied.copy.ensures)
     (λ c κs. search rules)
     (λ c κs. search rules)
     (λ c. search rules)
@@ -24,10 +24,10 @@ put_decimal_spec =
     (λ c. search rules)
     (λ c. search rules)
     (λ c.
-    let copied = c.before.before in
-    let two = copied.before.before.before in
-    let one = two.before in
-    put_two _ _ one.before.before.if1.false one.before.if2.true one.last-decimal2.ensures two.last-decimal3.ensures copied.copy2.ensures)
+    let copied = c in
+    let two = copied in
+    let one = two in
+    put_two _ _ one.if-n-lt10.false one.if-n-lt100.true one.last_decimal-then-n-lt100.ensures two.last_decimal-then-n-lt100-2.ensures copied.copy-then-n-lt100.ensures)
     (λ c κs. search rules)
     (λ c κs. search rules)
     (λ c κs. search rules)
@@ -36,8 +36,8 @@ put_decimal_spec =
     (λ c. search rules)
     (λ c. search rules)
     (λ c.
-    let copied = c.before.before in
-    let three = copied.before.before.before in
-    let two = three.before in
-    let one = two.before in
-    put_three _ _ one.before.if2.false one.last-decimal4.ensures two.last-decimal5.ensures three.last-decimal6.ensures copied.copy3.ensures))
+    let copied = c in
+    let three = copied in
+    let two = three in
+    let one = two in
+    put_three _ _ one.if-n-lt100.false one.last_decimal-2.ensures two.last_decimal-3.ensures three.last_decimal-4.ensures copied.copy-2.ensures))

@@ -21,13 +21,13 @@ put_hexadecimal_spec =
     (λ c. search rules)
     (λ c. search rules)
     (λ c.
-    let copied = c.before.before in
-    let d8 = copied.before.before.before in
-    let d7 = d8.before in
-    let d6 = d7.before in
-    let d5 = d6.before in
-    let d4 = d5.before in
-    let d3 = d4.before in
-    let d2 = d3.before in
-    let d1 = d2.before in
-    put_eight _ d1.last-hexadecimal.ensures d2.last-hexadecimal2.ensures d3.last-hexadecimal3.ensures d4.last-hexadecimal4.ensures d5.last-hexadecimal5.ensures d6.last-hexadecimal6.ensures d7.last-hexadecimal7.ensures d8.last-hexadecimal8.ensures copied.copy.ensures))
+    let copied = c in
+    let d8 = copied in
+    let d7 = d8 in
+    let d6 = d7 in
+    let d5 = d6 in
+    let d4 = d5 in
+    let d3 = d4 in
+    let d2 = d3 in
+    let d1 = d2 in
+    put_eight _ d1.last_hexadecimal.ensures d2.last_hexadecimal-2.ensures d3.last_hexadecimal-3.ensures d4.last_hexadecimal-4.ensures d5.last_hexadecimal-5.ensures d6.last_hexadecimal-6.ensures d7.last_hexadecimal-7.ensures d8.last_hexadecimal-8.ensures copied.copy.ensures))

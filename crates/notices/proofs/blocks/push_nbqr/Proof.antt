@@ -11,4 +11,4 @@ push_nbqr_spec =
     (tie.spec
     (λ c κs. search rules)
     (λ c. search rules)
-    (λ c. let e = c.before.before.push.ensures in record { whole = λ notices sum. rw (e.0, e.1) }))
+    (λ c. let e = c.before.before.push-saved.ensures in record { whole = λ notices sum. rw (e.0, e.1) }))

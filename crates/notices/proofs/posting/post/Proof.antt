@@ -19,4 +19,4 @@ post_spec =
     (λ c.
     let told = c.before.before.before.before.before in
     let fill = told.before.before.before.before.before.before.before in
-    posted _ _ fill.before.before.before.before.token_word_lem.ensures fill.fill-head.ensures told.enqueue-token.ensures))
+    posted _ _ fill.before.before.before.before.token_word.ensures fill.fill_head-filled.ensures told.enqueue_token-told.ensures))

@@ -10,7 +10,7 @@ post_all_spec =
     (tie.spec
     (λ c. search rules)
     (λ c. search rules)
-    (λ c κs. let b = c.before.before.before in b.before.before.before.before.requires.on _ _ b.p.given.1)
+    (λ c κs. c.requires.on _ _ c.in-On.is)
     (λ c. search post_none)
     (λ c. search rules)
     (λ c. search rules)

@@ -12,5 +12,5 @@ push_aqr_spec =
     (λ c κs. search rules)
     (λ c. search rules)
     (λ c.
-    let p = c.before.before.before.push-interrupting.ensures in
+    let p = c.before.before.before.push_interrupting-done.ensures in
     record { whole = λ notices sum. rw (p.queue, p.bit, p.interrupt, p.words); small = p.most }))

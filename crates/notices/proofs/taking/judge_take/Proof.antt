@@ -19,18 +19,18 @@ judge_take_spec =
     (λ c. search (gated_go, judging) depth 16)
     (λ c. search (gated_go, judging) depth 16)
     (λ c κs. search (place_asks, rules))
-    (λ c. rw (← c.before.place_of.ensures) (search (gated_go, judging) depth 16))
+    (λ c. rw (← c.before.place_of-place.ensures) (search (gated_go, judging) depth 16))
     (λ c κs. search (next_asks, rules))
     (λ c.
     let next = c.before in
-    rw (← next.before.before.place_of.ensures, ← next.next_of.ensures) (search (gated_go, judging) depth 16))
+    rw (← next.before.before.place_of-place.ensures, ← next.next_of-next.ensures) (search (gated_go, judging) depth 16))
     (λ c κs. search rules)
     (λ c.
     let next = c.before.before.before in
-    rw (← next.before.before.place_of.ensures, ← next.next_of.ensures) (search (gated_go, judging) depth 16))
+    rw (← next.before.before.place_of-place.ensures, ← next.next_of-next.ensures) (search (gated_go, judging) depth 16))
     (λ c.
     let next = c.before.before.before.before.before.before in
-    rw (← next.before.before.place_of.ensures, ← next.next_of.ensures) (search (gated_go, judging) depth 16))
+    rw (← next.before.before.place_of-place.ensures, ← next.next_of-next.ensures) (search (gated_go, judging) depth 16))
     (λ c.
     let next = c.before.before.before.before.before.before in
-    rw (← next.before.before.place_of.ensures, ← next.next_of.ensures) (search (gated_go, judging) depth 16)))
+    rw (← next.before.before.place_of-place.ensures, ← next.next_of-next.ensures) (search (gated_go, judging) depth 16)))

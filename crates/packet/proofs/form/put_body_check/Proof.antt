@@ -9,7 +9,7 @@ put_body_check_spec =
     tie.close
     (tie.spec
     (search rules)
-    (λ c. no_body _ _ _ c.if1.true)
+    (λ c. no_body _ _ _ c.if-n-eq0.true)
     (search rules)
     (search rules)
     (search rules)

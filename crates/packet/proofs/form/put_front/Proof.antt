@@ -6,12 +6,12 @@ use Rattle.packet.proofs.form.put_front.Tie as tie
 
 returns : tie.Need-returns
 returns c =
-    let check = c.before.before.before.before in
-    let meta = check.before.before.before.before in
-    let head = meta.before.before.before.before in
-    let m = meta.put-metadata.ensures in
-    let long = head.before.before.before.before.requires in
-    (front _ _ _ _ _ _ _ _ long m.1 head.copy-words.ensures m.0 check.header-check.ensures c.before.before.put.ensures, m.1)
+    let check = c in
+    let meta = check in
+    let head = meta in
+    let m = meta.put_metadata-from.ensures in
+    let long = head.requires in
+    (front _ _ _ _ _ _ _ _ long m.1 head.copy_words.ensures m.0 check.header_check-check.ensures c.put.ensures, m.1)
 
 pub put_front_spec : {M : Type 1} → statement M
 put_front_spec =

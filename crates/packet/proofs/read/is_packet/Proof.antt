@@ -8,6 +8,6 @@ pub is_packet_spec : {M : Type 1} → statement M
 is_packet_spec =
     tie.close
     (tie.spec
-    (λ c. too_short c.before.before.args.packet.now c.if1.true)
+    (λ c. too_short c.before.before.args.packet.now c.if-n-lt-PLAIN_START.true)
     (search rules)
     (λ c. cc))

@@ -14,5 +14,5 @@ metadata_spec =
     (tie.spec
     (search rules)
     (λ c κs. room_for_metadata c.before.before.before.args.packet.now c.before.before.before.requires (cc))
-    (λ c. arm_yes _ (cc) c.metadata-words.ensures)
+    (λ c. arm_yes _ (cc) c.metadata_words.ensures)
     (λ c. arm_no _ (cc) refl))

@@ -11,10 +11,10 @@ use Rattle.rules.specs.Sound.{descriptor_ok, descriptors_ok}
 use Rattle.sound.proofs.descriptors.descriptors_ok.Statement.{statement}
 use Rattle.sound.proofs.descriptors.descriptors_ok.Tie as tie
 
-abbrev invariant-loop : tie.invariant-loop
+abbrev invariant-loop : tie.invariant-loop-d
 invariant-loop send bytes ok₀ d₀ ok d = (d ≤ 4) × (ok ≡ all_below d (λ (j : ℕ). descriptor_ok bytes (descriptor_at send (descriptor j))))
 
-abbrev decreases-loop : tie.decreases-loop
+abbrev decreases-loop : tie.decreases-loop-d
 decreases-loop send bytes ok₀ d₀ ok d = 4 - d
 
 pub descriptors_ok_spec : {M : Type 1} → statement M
@@ -29,4 +29,4 @@ descriptors_ok_spec =
     (λ c. search rules)
     (λ c. search rules)
     (λ c. search (rules, all_turn))
-    (λ c. let e : c.before.loop.d ≡ 4 = omega arith in cc))
+    (λ c. let e : c.before.loop-d.d ≡ 4 = omega arith in cc))

@@ -11,13 +11,13 @@ use Rattle.rules.specs.Sound.{heads_ok, places_ok}
 use Rattle.sound.proofs.lists.lists_ok.Statement.{statement}
 use Rattle.sound.proofs.lists.lists_ok.Tie as tie
 
-abbrev invariant-loop : tie.invariant-loop
+abbrev invariant-loop : tie.invariant-loop-l
 invariant-loop receive n heads₀ places₀ l₀ heads places l =
     (l ≤ 64)
     × (heads ≡ all_below l (λ (j : ℕ). is_block_or_none n (head_of receive (list j))))
     × (places ≡ all_below l (λ (j : ℕ). is_block_or_none n (place_of receive (list j))))
 
-abbrev decreases-loop : tie.decreases-loop
+abbrev decreases-loop : tie.decreases-loop-l
 decreases-loop receive n heads₀ places₀ l₀ heads places l = 64 - l
 
 pub lists_ok_spec : {M : Type 1} → statement M
@@ -33,4 +33,4 @@ lists_ok_spec =
     (λ c. search rules)
     (λ c. search rules)
     (λ c. search (rules, all_turn))
-    (λ c. let e : c.before.loop.l ≡ 64 = omega arith in cc))
+    (λ c. let e : c.before.loop-l.l ≡ 64 = omega arith in cc))

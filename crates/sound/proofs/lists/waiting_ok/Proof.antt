@@ -12,11 +12,11 @@ use Rattle.rules.specs.Sound.{waiting_ok}
 use Rattle.sound.proofs.lists.waiting_ok.Statement.{statement}
 use Rattle.sound.proofs.lists.waiting_ok.Tie as tie
 
-abbrev invariant-loop : tie.invariant-loop
+abbrev invariant-loop : tie.invariant-loop-k
 invariant-loop receive q n ok₀ k₀ k-end ok k =
     (k ≤ q.length) × (ok ≡ all_below k (λ (j : ℕ). is_block n (get_or receive (entry_word nbqr_from q j) 0)))
 
-abbrev decreases-loop : tie.decreases-loop
+abbrev decreases-loop : tie.decreases-loop-k
 decreases-loop receive q n ok₀ k₀ k-end ok k = q.length - k
 
 pub waiting_ok_spec : {M : Type 1} → statement M
@@ -31,4 +31,4 @@ waiting_ok_spec =
     (λ c. search rules)
     (λ c. search rules)
     (λ c. search (rules, all_turn))
-    (λ c. let e : c.before.loop.k ≡ c.before.before.before.args.q.length = omega arith in cc))
+    (λ c. let e : c.before.loop-k.k ≡ c.before.before.before.args.q.length = omega arith in cc))

@@ -35,4 +35,4 @@ descriptor_at_spec =
     (λ c. search rules)
     (λ c. search rules)
     (λ c κs. search rules)
-    (λ c. rw c.metadata-at.ensures refl))
+    (λ c. rw c.metadata_at.ensures refl))

@@ -11,4 +11,4 @@ go_rule_spec =
     (tie.spec
     (λ c κs. search rules)
     (λ c κs. search rules)
-    (λ c. rw (c.message-size-ok.ensures, c.before.meta-ok.ensures)))
+    (λ c. rw (c.message_size_ok.ensures, c.before.meta_ok.ensures)))

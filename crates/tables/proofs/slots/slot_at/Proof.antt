@@ -50,4 +50,4 @@ slot_at_spec =
     (λ c. search rules)
     (λ c. search rules)
     (λ c. search rules)
-    (λ c. rw c.before.before.before.before.metadata-at.ensures refl))
+    (λ c. rw c.before.before.before.before.metadata_at.ensures refl))
