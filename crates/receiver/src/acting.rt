@@ -12,6 +12,7 @@ use replies::refuse;
 use rules::{Answer, Packet, Receipt, Receiving, Reply, Saved};
 
 // "payload to base plus offset".
+#[tactic(auto, using(crate::proofs::Steps::payload_stored_lem, crate::proofs::Steps::payload_fits), unfolding(rules::specs::Receipt::payload_stored))]
 fn store_payload(bytes: &mut [u8], packet: &[u8], p: Packet, r: Receipt)
     requires { Landable bytes.old packet.now p r }
     ensures { bytes.new ≡ payload_stored packet.now p r bytes.old }
@@ -60,6 +61,7 @@ fn land(p: Packet, r: Receipt, s: Saved, receive: &mut [u32]) -> Step
 }
 
 // One packet more, taken or faulted.
+#[tactic(auto, using(crate::proofs::Steps::counts_fault, crate::proofs::Steps::counts_taken))]
 fn count(r: Receipt, s: Saved) -> Saved
     ensures { result ≡ counted_by r s }
 {
@@ -99,6 +101,7 @@ fn receive_on_board(
 }
 
 // Done, or a fault with its status.
+#[tactic(auto, unfolding(rules::specs::Calls::receipt_reply))]
 fn reply(r: Receipt) -> Reply
     ensures { result ≡ receipt_reply r }
 {

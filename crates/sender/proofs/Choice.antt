@@ -106,7 +106,7 @@ module _ (s : Saved) (send receive : List ℕ) (k : ℕ) {r : Found}
   unfolding first_from
   ended e =
       let none : 4 - k ≡ 0 = omega arith in
-      sym (ap (first_from _ s.lastsender k) none) ∙ h
+      sym (ap (first_from (λ (d : DescriptorIndex). is_ready s receive (descriptor_at send d)) s.lastsender k) none) ∙ h
 
   module _ (few : k ≤ 4) (on : k ≢ 4) {t : Bool} (says : t ≡ is_ready s receive (descriptor_at send place)) where
     -- This place, and those after it.
@@ -114,7 +114,7 @@ module _ (s : Saved) (send receive : List ℕ) (k : ℕ) {r : Found}
     unfolding first_from
     turn =
         let more : 4 - k ≡ suc (4 - (k + 1)) = omega arith in
-        rw says (sym (ap (first_from _ s.lastsender k) more) ∙ h)
+        rw says (sym (ap (first_from (λ (d : DescriptorIndex). is_ready s receive (descriptor_at send d)) s.lastsender k) more) ∙ h)
 
     -- The first that is ready.
     pub met : t ≡ true → Found.At place ≡ r

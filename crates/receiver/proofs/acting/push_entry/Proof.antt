@@ -9,11 +9,10 @@ push_entry_spec =
     tie.close
     (tie.spec
     (λ c. search rules)
-    (λ c. never_entered _ _ _ _ c.match.keys2)
+    (λ c. never_entered _ _ _ _ (search rules))
     (λ c κs. search entry_knows)
     (λ c.
-    let lands = c.before.before.before.before in
-    omega (arith, (lands.before.before.before.requires.storable.known.lands _ _ lands.r.given.1).low))
+    omega (arith, (c.requires.storable.known.lands _ _ c.in-Lands.is).low))
     (λ c κs. search entry_asks)
     (λ c. search rules)
     (λ c. search entered)

@@ -4,13 +4,6 @@ use Rattle.receiver.proofs.Steps.{post_asks, on_board_lem}
 use Rattle.receiver.proofs.acting.receive_on_board.Statement.{statement}
 use Rattle.receiver.proofs.acting.receive_on_board.Tie as tie
 
--- What is known where the notice was posted, and where the packet had landed.
-abbrev posted : tie.After-struct-known2 → tie.After-post-all
-posted c = c.before.before.before.before.before.before.before.before
-
-abbrev landed : tie.After-struct-known2 → tie.After-land
-landed c = (posted c).before.before.before.before.before.before.before
-
 pub receive_on_board_spec : {M : Type 1} → statement M
 receive_on_board_spec =
     tie.close
@@ -19,10 +12,10 @@ receive_on_board_spec =
     (λ c κs. search rules)
     (λ c κs. search post_asks)
     (λ c κs. search rules)
-    (λ c. omega (arith, (landed c).land.ensures.board.small, (posted c).post-all.ensures.small))
-    (λ c. (posted c).post-all.auto.1.1.0 ∙ (landed c).land.auto.1.1.1.0)
+    (λ c. omega (arith, c.land-landed.ensures.board.small, c.post_all-posted.ensures.small))
+    (λ c. c.post_all-posted.auto.receive ∙ c.land-landed.auto.receive)
     (λ c. search rules)
     (λ c.
-    on_board_lem _ _ _ _ _ _ _ (posted c).before.before.before.receipt-posting.ensures (landed c).land.ensures _ _ _ _ _
-    (posted c).post-all.ensures
-    c.before.before.count.ensures))
+    on_board_lem _ _ _ _ _ _ _ c.receipt_posting-posting.ensures c.land-landed.ensures _ _ _ _ _
+    c.post_all-posted.ensures
+    c.count.ensures))

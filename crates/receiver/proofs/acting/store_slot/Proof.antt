@@ -14,4 +14,4 @@ store_slot_spec =
     (λ c κs. search (data_slot, rules))
     (λ c. search rules)
     (λ c. search slot_stored_lem)
-    (λ c. slot_kept _ _ _ c.match.keys2))
+    (λ c. slot_kept _ _ _ c.in_default.in_default-own.keys2))

@@ -1,7 +1,6 @@
 -- `receiver::first_failure::receipt_in` meets its contract. Assumes nothing.
-use Rattle.std.proofs.Common.{rules}
+use Rattle.std.proofs.Common.{rules, sym, ◌∙◌, ne_eqb}
 use Rattle.ground.proofs.Choice.{judging}
-use Rattle.ground.proofs.Tests.{flag_yes}
 use Rattle.rules.specs.Receipt.{receipt_of}
 use Rattle.receiver.proofs.Asked.{slot_asks, data_asks, decided}
 use Rattle.receiver.proofs.first_failure.receipt_in.Statement.{statement}
@@ -15,29 +14,21 @@ receipt_in_spec =
     (λ c κs. search slot_asks)
     (λ c κs. search rules)
     (λ c.
-    let at = c.before.before in
-    let asked = at.before.before.before.before.before.before.before.before.requires in
-    rw (← asked.judgeable.fields, ← at.slot_at.ensures) (search (judging, asked) depth 24))
+    let asked = c.requires in
+    rw (← asked.judgeable.fields, ← c.slot_at-v.ensures) (search (judging, asked) depth 24))
     (λ c.
-    let at = c.before.before.before in
-    let asked = at.before.before.before.before.before.before.before.before.requires in
-    rw (← asked.judgeable.fields, ← at.slot_at.ensures) (search (judging, asked) depth 24))
+    let asked = c.requires in
+    rw (← asked.judgeable.fields, ← c.slot_at-v.ensures) (search (judging, asked) depth 24))
     (λ c.
-    let at = c.before.before.before.before in
-    let asked = at.before.before.before.before.before.before.before.before.requires in
-    rw (← asked.judgeable.fields, ← at.slot_at.ensures) (search (judging, asked) depth 24))
+    let asked = c.requires in
+    rw (← asked.judgeable.fields, ← c.slot_at-v.ensures) (search (judging, asked) depth 24))
     (λ c κs.
-    let valid = c.before.before in
-    data_asks _ _ valid.before.before.before.before.before.before.before.before.before.before.requires (flag_yes valid.before.Slot-ok.ensures valid.if1.false))
+    data_asks _ _ c.requires (sym c.slot_ok.ensures ∙ c.if-not-slot_ok.false))
     (λ c.
-    let plain = c.before in
-    let same = plain.before in
-    let valid = same.before in
-    let at = valid.before.before in
     decided _ _ _ _ _ _
-    at.before.before.before.before.before.before.before.before.requires
-    at.slot_at.ensures
-    (flag_yes valid.before.Slot-ok.ensures valid.if1.false)
-    same.if2.false
-    plain.if3.false
-    c.data-receipt.ensures))
+    c.requires
+    c.slot_at-v.ensures
+    (sym c.slot_ok.ensures ∙ c.if-not-slot_ok.false)
+    c.if-incarnation-our_incarnation.false
+    (ne_eqb _ _ c.if-ack_pkt.false)
+    c.data_receipt.ensures))

@@ -1,7 +1,6 @@
 -- `receiver::first_failure::receipt_of` meets its contract. Assumes nothing.
-use Rattle.std.proofs.Common.{rules}
+use Rattle.std.proofs.Common.{rules, sym, ◌∙◌}
 use Rattle.ground.proofs.Choice.{judging}
-use Rattle.ground.proofs.Tests.{flag_yes}
 use Rattle.rules.specs.Receipt.{receipt_of}
 use Rattle.receiver.proofs.Asked.{addressed}
 use Rattle.receiver.proofs.first_failure.receipt_of.Statement.{statement}
@@ -15,17 +14,14 @@ receipt_of_spec =
     (λ c κs. search rules)
     (λ c. search judging)
     (λ c κs. search rules)
-    (λ c. rw (← c.before.before.before.before.before.before.before.before.before.before.requires.fields) (search judging depth 12))
-    (λ c. rw (← c.before.before.before.before.before.before.before.before.before.before.before.requires.fields) (search judging depth 12))
-    (λ c. rw (← c.before.before.before.before.before.before.before.before.before.before.before.before.before.requires.fields) (search judging depth 12))
+    (λ c. rw (← c.requires.fields) (search judging depth 12))
+    (λ c. rw (← c.requires.fields) (search judging depth 12))
+    (λ c. rw (← c.requires.fields) (search judging depth 12))
     (λ c κs.
-    let ours = c.before.before in
-    let zeros = ours.before in
-    let header = zeros.before.before.before.before.before.before in
     addressed _ _ _ _
-    header.before.before.before.before.requires
-    (flag_yes header.before.header-checks.ensures header.if1.false)
-    (flag_yes zeros.before.fields-ok.ensures zeros.if2.false)
-    ours.if3.false
+    c.requires
+    (sym c.header_checks.ensures ∙ c.if-not-header_checks.false)
+    (sym c.fields_ok.ensures ∙ c.if-not-fields_ok.false)
+    c.if-dst_node-our_node.false
     (search rules))
     (λ c. search rules))

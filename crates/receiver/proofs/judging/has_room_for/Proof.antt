@@ -10,5 +10,5 @@ has_room_for_spec =
     (tie.spec
     (λ c κs. search rules)
     (λ c κs. search rules)
-    (λ c κs. let notice = c.before in post_asks notice.before.before.before.requires notice.receipt-posting.ensures)
+    (λ c κs. let notice = c.before in post_asks notice.before.before.before.requires notice.receipt_posting-notice.ensures)
     (λ c. search room))

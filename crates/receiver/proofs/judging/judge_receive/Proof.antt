@@ -28,10 +28,10 @@ judge_receive_spec =
     (λ c.
     let told = c.before.before in
     let go = told.before.before.before.before.before.before in
-    rw (← told.before.fields.ensures, ← told.receipt-of.ensures)
+    rw (← told.before.fields-p.ensures, ← told.receipt_of-receipt.ensures)
     (search (gated_go, judging, go.enum_told.given.1, go.before.before.gate.ensures) depth 16))
     (λ c.
     let told = c.before.before in
     let go = told.before.before.before.before.before.before in
-    rw (← told.before.fields.ensures, ← told.receipt-of.ensures)
+    rw (← told.before.fields-p.ensures, ← told.receipt_of-receipt.ensures)
     (search (gated_go, judging, go.enum_told.given.1, go.before.before.gate.ensures) depth 16)))

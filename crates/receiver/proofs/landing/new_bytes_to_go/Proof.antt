@@ -10,4 +10,4 @@ new_bytes_to_go_spec =
     (tie.spec
     (λ c κs. search rules)
     (λ c κs. search rules)
-    (λ c. let new = c.before.new-bytes-to-go in rw (c.to_word.ensures, read_back new.result new.type-inv, new.ensures)))
+    (λ c. let new = c.before.new_bytes_to_go in rw (c.to_word.ensures, read_back new.result new.type_inv, new.ensures)))

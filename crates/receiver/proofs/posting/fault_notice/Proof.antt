@@ -12,7 +12,7 @@ fault_notice_spec =
     (tie.spec
     (λ c. search rules)
     (λ c κs. search rules)
-    (λ c. omega (arith, status_low c.before.before.before.before.args.f, c.fault-status.ensures))
+    (λ c. omega (arith, status_low c.before.before.before.before.args.f, c.fault_status.ensures))
     (λ c. search rules)
     (λ c. search rules)
     (λ c. cc))

@@ -9,6 +9,6 @@ needs_aqr_spec =
     tie.close
     (tie.spec
     (λ c. search rules)
-    (λ c. no_entry _ _ c.match.keys2)
+    (λ c. no_entry _ _ c.in_default.in_default-own.keys2)
     (λ c κs. search known_count)
     (λ c. search some_entry))

@@ -14,5 +14,5 @@ completes_spec =
     (λ c κs. search rules)
     (λ c.
     let zero = c.before in
-    let new = zero.before.new-bytes-to-go in
-    rw (zero.is_zero.ensures, read_back new.result new.type-inv, new.ensures)))
+    let new = zero.before.new_bytes_to_go in
+    rw (zero.is_zero.ensures, read_back new.result new.type_inv, new.ensures)))

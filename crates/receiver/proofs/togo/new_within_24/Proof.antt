@@ -11,5 +11,5 @@ new_within_24_spec =
     (λ c κs. search rules)
     (λ c κs. search rules)
     (λ c.
-    let new = c.before.new-bytes-to-go in
-    rw (c.within-24.ensures, read_back new.result new.type-inv, new.ensures)))
+    let new = c.before.new_bytes_to_go in
+    rw (c.within_24.ensures, read_back new.result new.type_inv, new.ensures)))

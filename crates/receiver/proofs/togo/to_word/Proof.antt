@@ -12,21 +12,21 @@ same : (s : tie.Start) → to_z w32 (of_z w32 s.args.z) ≡ s.args.z
 same s = to_z-of_z w32 s.args.z s.ranges.z
 
 -- Below zero: what the complement is.
-complement : (c : tie.Then1)
+complement : (c : tie.Then-z-lt0)
     → (negsuc 0 -ℤ c.before.args.z ≡ pos (mag c.before.args.z))
     × (mag c.before.args.z < 2 ^ 31)
     × (4294967295 - mag c.before.args.z ≡ unsigned c.before.args.z)
-complement c = negative c.before.args.z c.before.ranges.z (rw (same c.before) at c.if1.true)
+complement c = negative c.before.args.z c.before.ranges.z (rw (same c.before) at c.if-z-lt0.true)
 
-flipped : (c : tie.Then1) → to_z w32 (of_z w32 (negsuc 0 -ℤ to_z w32 (of_z w32 c.before.args.z))) ≡ pos (mag c.before.args.z)
+flipped : (c : tie.Then-z-lt0) → to_z w32 (of_z w32 (negsuc 0 -ℤ to_z w32 (of_z w32 c.before.args.z))) ≡ pos (mag c.before.args.z)
 flipped c = rw (same c.before, (complement c).0) (to_z_pos w32 (mag c.before.args.z) (complement c).1)
 
 -- Not below zero: the number is its word.
-itself : (c : tie.Else1) → c.before.args.z ≡ pos (unsigned c.before.args.z)
-itself c = natural c.before.args.z (rw (same c.before) at c.if1.false)
+itself : (c : tie.Else-z-lt0) → c.before.args.z ≡ pos (unsigned c.before.args.z)
+itself c = natural c.before.args.z (rw (same c.before) at c.if-z-lt0.false)
 
-small : (c : tie.Else1) → unsigned c.before.args.z < 2 ^ 31
-small c = word_lt c.before.args.z c.before.ranges.z (rw (same c.before) at c.if1.false)
+small : (c : tie.Else-z-lt0) → unsigned c.before.args.z < 2 ^ 31
+small c = word_lt c.before.args.z c.before.ranges.z (rw (same c.before) at c.if-z-lt0.false)
 
 pub to_word_spec : {M : Type 1} → statement M
 to_word_spec =

@@ -9,7 +9,7 @@ pub within_24_spec : {M : Type 1} → statement M
 within_24_spec =
     tie.close
     (tie.spec
-    (λ c. let s = c.before in below s.args.z (rw (to_z-of_z w32 s.args.z s.ranges.z) at c.if1.true))
+    (λ c. let s = c.before in below s.args.z (rw (to_z-of_z w32 s.args.z s.ranges.z) at c.if-z-ltminus16777215.true))
     (λ c.
     let s = c.before in
-    rw (to_z-of_z w32 s.args.z s.ranges.z) (not_below s.args.z (rw (to_z-of_z w32 s.args.z s.ranges.z) at c.if1.false))))
+    rw (to_z-of_z w32 s.args.z s.ranges.z) (not_below s.args.z (rw (to_z-of_z w32 s.args.z s.ranges.z) at c.if-z-ltminus16777215.false))))

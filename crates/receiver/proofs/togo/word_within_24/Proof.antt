@@ -12,4 +12,4 @@ word_within_24_spec =
     (λ c κs. search rules)
     (λ c.
     let number = c.before.of_word in
-    rw (c.within-24.ensures, read_back number.result number.type-inv, number.ensures)))
+    rw (c.within_24.ensures, read_back number.result number.type_inv, number.ensures)))

@@ -6,10 +6,10 @@ use Rattle.registers.proofs.Cleared.{Cleared, clear_none, clear_more, clear_all}
 use Rattle.registers.proofs.reset.clear.Statement.{statement}
 use Rattle.registers.proofs.reset.clear.Tie as tie
 
-abbrev invariant-loop : tie.invariant-loop
+abbrev invariant-loop : tie.invariant-loop-i
 invariant-loop ram₀ i₀ ram i = Cleared ram₀ ram i
 
-abbrev decreases-loop : tie.decreases-loop
+abbrev decreases-loop : tie.decreases-loop-i
 decreases-loop ram₀ i₀ ram i = length ram₀ - i
 
 pub clear_spec : {M : Type 1} → statement M

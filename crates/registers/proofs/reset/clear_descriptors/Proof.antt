@@ -5,10 +5,10 @@ use Rattle.registers.proofs.Cleared.{ClearedTo, descriptors_none, descriptors_mo
 use Rattle.registers.proofs.reset.clear_descriptors.Statement.{statement}
 use Rattle.registers.proofs.reset.clear_descriptors.Tie as tie
 
-abbrev invariant-loop : tie.invariant-loop
+abbrev invariant-loop : tie.invariant-loop-d
 invariant-loop send₀ d₀ send d = ClearedTo send₀ send d
 
-abbrev decreases-loop : tie.decreases-loop
+abbrev decreases-loop : tie.decreases-loop-d
 decreases-loop send₀ d₀ send d = 4 - d
 
 pub clear_descriptors_spec : {M : Type 1} → statement M

@@ -9,12 +9,12 @@ use Rattle.sender.proofs.Choice.{starts, ended, met, passed, turn_asks}
 use Rattle.sender.proofs.choosing.next_sender.Statement.{statement}
 use Rattle.sender.proofs.choosing.next_sender.Tie as tie
 
-abbrev invariant-loop : tie.invariant-loop
+abbrev invariant-loop : tie.invariant-loop-k
 invariant-loop s send receive k₀ k =
     (k ≤ 4)
     × (first_from (λ (d : DescriptorIndex). is_ready s receive (descriptor_at send d)) s.lastsender k (4 - k) ≡ next_sender s send receive)
 
-abbrev decreases-loop : tie.decreases-loop
+abbrev decreases-loop : tie.decreases-loop-k
 decreases-loop s send receive k₀ k = 4 - k
 
 pub next_sender_spec : {M : Type 1} → statement M
@@ -31,10 +31,10 @@ next_sender_spec =
     (λ c. search rules)
     (λ c.
     let test = c.before.before.before in
-    let loop = test.before.loop in
-    (omega arith, passed _ _ _ _ loop.invariant.1 loop.invariant.0 test.if1.false c.before.is-ready.ensures c.if2.false))
-    (λ c. ended _ _ _ _ c.before.loop.invariant.1 c.if1.true)
+    let loop = test.before.loop-k in
+    (omega arith, passed _ _ _ _ loop.invariant.1 loop.invariant.0 test.if-k-eq-DESCRIPTORS.false c.before.is_ready.ensures c.if-is_ready.false))
+    (λ c. ended _ _ _ _ c.before.loop-k.invariant.1 c.if-k-eq-DESCRIPTORS.true)
     (λ c.
     let test = c.before.before.before in
-    let loop = test.before.loop in
-    met _ _ _ _ loop.invariant.1 loop.invariant.0 test.if1.false c.before.is-ready.ensures c.if2.true))
+    let loop = test.before.loop-k in
+    met _ _ _ _ loop.invariant.1 loop.invariant.0 test.if-k-eq-DESCRIPTORS.false c.before.is_ready.ensures c.if-is_ready.true))

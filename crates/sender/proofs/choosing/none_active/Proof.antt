@@ -12,10 +12,10 @@ use Rattle.sender.proofs.Choice.{rests}
 use Rattle.sender.proofs.choosing.none_active.Statement.{statement}
 use Rattle.sender.proofs.choosing.none_active.Tie as tie
 
-abbrev invariant-loop : tie.invariant-loop
+abbrev invariant-loop : tie.invariant-loop-d
 invariant-loop send none₀ d₀ none d = (d ≤ 4) × (none ≡ all_below d (λ (j : ℕ). not (is_active (descriptor_at send (descriptor j)))))
 
-abbrev decreases-loop : tie.decreases-loop
+abbrev decreases-loop : tie.decreases-loop-d
 decreases-loop send none₀ d₀ none d = 4 - d
 
 pub none_active_spec : {M : Type 1} → statement M
@@ -31,4 +31,4 @@ none_active_spec =
     (λ c. search rules)
     (λ c. search rules)
     (λ c. search (rules, all_turn, rests))
-    (λ c. let e : c.before.loop.d ≡ 4 = omega arith in cc))
+    (λ c. let e : c.before.loop-d.d ≡ 4 = omega arith in cc))
