@@ -26,12 +26,6 @@ judge_receive_spec =
     (λ c κs. search judgeable)
     (λ c κs. search (answerable, judgeable))
     (λ c.
-    let told = c.before.before in
-    let go = told.before.before.before.before.before.before in
-    rw (← told.before.fields-p.ensures, ← told.receipt_of-receipt.ensures)
-    (search (gated_go, judging, go.enum_told.given.1, go.before.before.gate.ensures) depth 16))
+    rw (← c.fields-p.ensures, ← c.receipt_of-receipt.ensures) (search (gated_go, judging, c.gate.ensures) depth 16))
     (λ c.
-    let told = c.before.before in
-    let go = told.before.before.before.before.before.before in
-    rw (← told.before.fields-p.ensures, ← told.receipt_of-receipt.ensures)
-    (search (gated_go, judging, go.enum_told.given.1, go.before.before.gate.ensures) depth 16)))
+    rw (← c.fields-p.ensures, ← c.receipt_of-receipt.ensures) (search (gated_go, judging, c.gate.ensures) depth 16)))
