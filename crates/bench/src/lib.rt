@@ -1,4 +1,6 @@
 // What is proved of the definitions, each the contract of a function that does nothing, so that it cannot go missing.
+#![tactic(auto)]
+
 ghost use Rattle.bench.specs.Layouts.{Layouts};
 ghost use Rattle.bench.specs.Bench.{Bench};
 ghost use Rattle.bench.specs.Sample.{Sample};

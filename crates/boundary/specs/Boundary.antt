@@ -7,7 +7,6 @@ use Rattle.rules.specs.declared.Refusal.{Refusal}
 use Rattle.rules.specs.declared.Saved.{Saved}
 use Rattle.rules.specs.Memory.{Machine, machine}
 use Rattle.rules.specs.Replies.{Outcome, refusal_number, reply_number, reply_value}
-use Rattle.laws.specs.Lent.{Slice}
 
 -- ---- the saved state in words
 
@@ -109,26 +108,13 @@ exported call l =
     (left o.reply (leaves o l.answer))
     (left (refusal_number Refusal.Sizes) l)
 
--- The slices as a call finds them, and as it leaves them, with what the room holds.
-abbrev pub lent_before : Slice → Slice → Slice → Slice → Slice → List ℕ → Slice → Lent
-lent_before saved send receive bytes notices room answer =
-    lent saved.entry.now send.entry.now receive.entry.now bytes.entry.now notices.entry.now room answer.entry.now
-
-abbrev pub lent_after : Slice → Slice → Slice → Slice → Slice → List ℕ → Slice → Lent
-lent_after saved send receive bytes notices room answer =
-    lent saved.exit.now send.exit.now receive.exit.now bytes.exit.now notices.exit.now room answer.exit.now
-
--- A call without a room returned a number, and left the slices, as it should.
-abbrev pub Exports : (Machine → Outcome) → ℕ → Slice → Slice → Slice → Slice → Slice → Slice → Type 0
-Exports call r saved send receive bytes notices answer =
-    left r (lent_after saved send receive bytes notices [] answer)
-    ≡ exported (λ m room. call m) (lent_before saved send receive bytes notices [] answer)
+-- A call without a room returned a number, and left the slices, as it should: by what they held before, and what they hold after.
+abbrev pub Exports : (Machine → Outcome) → ℕ → Lent → Lent → Type 0
+Exports call r before after = left r after ≡ exported (λ m room. call m) before
 
 -- One with a room.
-abbrev pub ExportsFilling : (Machine → List ℕ → Outcome) → ℕ → Slice → Slice → Slice → Slice → Slice → Slice → Slice → Type 0
-ExportsFilling call r saved send receive bytes notices room answer =
-    left r (lent_after saved send receive bytes notices room.exit.now answer)
-    ≡ exported call (lent_before saved send receive bytes notices room.entry.now answer)
+abbrev pub ExportsFilling : (Machine → List ℕ → Outcome) → ℕ → Lent → Lent → Type 0
+ExportsFilling call r before after = left r after ≡ exported call before
 
 -- ---- how it ends
 

@@ -1,6 +1,7 @@
 // The read.
+ghost use Rattle.std.specs.Prelude.{[]};
 ghost use Rattle.rules.specs.Calls.{read_call};
-ghost use Rattle.boundary.specs.Boundary.{Exports};
+ghost use Rattle.boundary.specs.Boundary.{lent, Exports};
 
 use crate::words::{SIZES, finish, lent_ok, load};
 
@@ -15,7 +16,9 @@ pub extern "C" fn valmthosh_read(
     register: u32,
     answer: &mut [u32],
 ) -> u32
-    ensures { Exports (λ m. read_call m register) result saved send receive bytes notices answer }
+    ensures { Exports (λ m. read_call m register) result
+        (lent saved.old send.now receive.now bytes.now notices.now [] answer.old)
+        (lent saved.new send.now receive.now bytes.now notices.now [] answer.new) }
 {
     if !lent_ok(saved.len(), answer.len()) {
         return SIZES;

@@ -1,6 +1,7 @@
 // The receive.
+ghost use Rattle.std.specs.Prelude.{[]};
 ghost use Rattle.rules.specs.Calls.{receive_call};
-ghost use Rattle.boundary.specs.Boundary.{Exports};
+ghost use Rattle.boundary.specs.Boundary.{lent, Exports};
 
 use crate::words::{SIZES, finish, lent_ok, load};
 
@@ -15,7 +16,9 @@ pub extern "C" fn valmthosh_receive(
     packet: &[u8],
     answer: &mut [u32],
 ) -> u32
-    ensures { Exports (λ m. receive_call m packet.now) result saved send receive bytes notices answer }
+    ensures { Exports (λ m. receive_call m packet.now) result
+        (lent saved.old send.now receive.old bytes.old notices.old [] answer.old)
+        (lent saved.new send.now receive.new bytes.new notices.new [] answer.new) }
 {
     if !lent_ok(saved.len(), answer.len()) {
         return SIZES;

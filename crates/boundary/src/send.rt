@@ -1,7 +1,7 @@
 // The send.
 ghost use Rattle.std.specs.Prelude.{eqb};
 ghost use Rattle.rules.specs.Calls.{send_call};
-ghost use Rattle.boundary.specs.Boundary.{ExportsFilling};
+ghost use Rattle.boundary.specs.Boundary.{lent, ExportsFilling};
 
 use crate::words::{SIZES, finish, lent_ok, load};
 
@@ -17,7 +17,9 @@ pub extern "C" fn valmthosh_send(
     room: &mut [u8],
     answer: &mut [u32],
 ) -> u32
-    ensures { ExportsFilling (λ m room. send_call m (eqb ready 1) room) result saved send receive bytes notices room answer }
+    ensures { ExportsFilling (λ m room. send_call m (eqb ready 1) room) result
+        (lent saved.old send.old receive.old bytes.now notices.old room.old answer.old)
+        (lent saved.new send.new receive.new bytes.now notices.new room.new answer.new) }
 {
     if !lent_ok(saved.len(), answer.len()) {
         return SIZES;

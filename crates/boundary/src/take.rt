@@ -1,6 +1,6 @@
 // The take.
 ghost use Rattle.rules.specs.Calls.{take_call};
-ghost use Rattle.boundary.specs.Boundary.{ExportsFilling};
+ghost use Rattle.boundary.specs.Boundary.{lent, ExportsFilling};
 
 use crate::words::{SIZES, finish, lent_ok, load};
 
@@ -16,7 +16,9 @@ pub extern "C" fn valmthosh_take(
     room: &mut [u32],
     answer: &mut [u32],
 ) -> u32
-    ensures { ExportsFilling (λ m room. take_call m list room) result saved send receive bytes notices room answer }
+    ensures { ExportsFilling (λ m room. take_call m list room) result
+        (lent saved.old send.now receive.old bytes.now notices.old room.old answer.old)
+        (lent saved.new send.now receive.new bytes.now notices.new room.new answer.new) }
 {
     if !lent_ok(saved.len(), answer.len()) {
         return SIZES;

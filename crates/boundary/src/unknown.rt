@@ -1,6 +1,7 @@
 // The call of no known kind.
+ghost use Rattle.std.specs.Prelude.{[]};
 ghost use Rattle.rules.specs.Calls.{unknown_call};
-ghost use Rattle.boundary.specs.Boundary.{Exports};
+ghost use Rattle.boundary.specs.Boundary.{lent, Exports};
 
 use crate::words::{SIZES, finish, lent_ok, load};
 
@@ -13,7 +14,9 @@ pub fn unknown_call(
     notices: &[u32],
     answer: &mut [u32],
 ) -> u32
-    ensures { Exports unknown_call result saved send receive bytes notices answer }
+    ensures { Exports unknown_call result
+        (lent saved.old send.now receive.now bytes.now notices.now [] answer.old)
+        (lent saved.new send.now receive.now bytes.now notices.now [] answer.new) }
 {
     if !lent_ok(saved.len(), answer.len()) {
         return SIZES;

@@ -1,6 +1,7 @@
 // The write.
+ghost use Rattle.std.specs.Prelude.{[]};
 ghost use Rattle.rules.specs.Calls.{write_call};
-ghost use Rattle.boundary.specs.Boundary.{Exports};
+ghost use Rattle.boundary.specs.Boundary.{lent, Exports};
 
 use crate::words::{SIZES, finish, lent_ok, load};
 
@@ -16,7 +17,9 @@ pub extern "C" fn valmthosh_write(
     value: u32,
     answer: &mut [u32],
 ) -> u32
-    ensures { Exports (λ m. write_call m register value) result saved send receive bytes notices answer }
+    ensures { Exports (λ m. write_call m register value) result
+        (lent saved.old send.old receive.old bytes.now notices.old [] answer.old)
+        (lent saved.new send.new receive.new bytes.now notices.new [] answer.new) }
 {
     if !lent_ok(saved.len(), answer.len()) {
         return SIZES;

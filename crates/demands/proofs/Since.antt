@@ -24,10 +24,8 @@ use Rattle.demands.specs.Runs.{Run, start, ◌▸◌, calls, outside, rewritten,
 use Rattle.demands.specs.History.{gathered, NoReset, begun, AfterReset, answer_of, answers}
 use Rattle.demands.specs.Places.{entries}
 use Rattle.demands.proofs.Reset.{accepted}
-use Rattle.demands.proofs.Blocks.{next}
 use Rattle.demands.proofs.Sight.{below_at, view}
 use Rattle.demands.proofs.Steps.{call_step}
-use Rattle.demands.proofs.Answers.{done}
 use Rattle.demands.proofs.Descriptors.{Rules, idle}
 use Rattle.demands.proofs.Numbers.{reset_numbers}
 use Rattle.demands.proofs.Sane.{Sane, act_sane}

@@ -1,4 +1,6 @@
 // What the buyer asked for, each the contract of a function that does nothing, so that it cannot go missing.
+#![tactic(auto)]
+
 ghost use Rattle.demands.specs.Demands.{RefusalsAlterNothing, ReadBack, OnlyFormed, PacketCounts, ThirdDemand, NeverUnsound};
 
 // Demand 1: a refusal alters nothing but the stalled mark.

@@ -14,7 +14,8 @@ pub fn read(
     notices: &[u32],
     register: u32,
 ) -> Answer
-    ensures { leaves result send receive bytes notices [] ≡ read_call (before s send receive bytes notices) register }
+    ensures { leaves result send.now receive.now bytes.now notices.now []
+        ≡ read_call (before s send.now receive.now bytes.now notices.now) register }
 {
     let reached = registers::judge_read(s, send, receive, bytes, notices, register);
     registers::act_read(registers::decode(register), reached, s, send, receive)

@@ -14,7 +14,8 @@ pub fn receive(
     notices: &mut [u32],
     packet: &[u8],
 ) -> Answer
-    ensures { leaves result send receive bytes notices [] ≡ receive_call (before s send receive bytes notices) packet.now }
+    ensures { leaves result send.now receive.new bytes.new notices.new []
+        ≡ receive_call (before s send.now receive.old bytes.old notices.old) packet.now }
 {
     let receiving = receiver::judge_receive(s, send, receive, bytes, notices, packet);
     receiver::act_receive(receiving, s, receive, bytes, notices, packet)

@@ -8,7 +8,8 @@ use rules::{Answer, Refusal, Saved, Verdict};
 
 // no-register: "unknown call".
 pub fn unknown(s: Saved, send: &[u32], receive: &[u32], bytes: &[u8], notices: &[u32]) -> Answer
-    ensures { leaves result send receive bytes notices [] ≡ unknown_call (before s send receive bytes notices) }
+    ensures { leaves result send.now receive.now bytes.now notices.now []
+        ≡ unknown_call (before s send.now receive.now bytes.now notices.now) }
 {
     let why = match sound::gate(s, send, receive, bytes.len(), notices.len()) {
         Verdict::No(why) => why,

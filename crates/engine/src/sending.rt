@@ -15,7 +15,8 @@ pub fn send(
     ready: bool,
     room: &mut [u8],
 ) -> Answer
-    ensures { fills result send receive bytes notices room ≡ send_call (before s send receive bytes notices) ready room.old }
+    ensures { fills result send.new receive.new bytes.now notices.new room.new
+        ≡ send_call (before s send.old receive.old bytes.now notices.old) ready room.old }
 {
     let sending = sender::judge_send(s, send, receive, bytes, notices, ready, room.len());
     sender::act_send(sending, s, send, receive, bytes, notices, room)

@@ -15,7 +15,8 @@ pub fn take(
     list: u32,
     room: &mut [u32],
 ) -> Answer
-    ensures { fills result send receive bytes notices room ≡ take_call (before s send receive bytes notices) list room.old }
+    ensures { fills result send.now receive.new bytes.now notices.new room.new
+        ≡ take_call (before s send.now receive.old bytes.now notices.old) list room.old }
 {
     let taking = notices::judge_take(s, send, receive, bytes, notices, list, room.len());
     notices::act_take(taking, s, receive, notices, room)

@@ -15,7 +15,8 @@ pub fn write(
     register: u32,
     value: u32,
 ) -> Answer
-    ensures { leaves result send receive bytes notices [] ≡ write_call (before s send receive bytes notices) register value }
+    ensures { leaves result send.new receive.new bytes.now notices.new []
+        ≡ write_call (before s send.old receive.old bytes.now notices.old) register value }
 {
     let writing = registers::judge_write(s, send, receive, bytes, notices, register, value);
     registers::act_write(writing, s, send, receive, notices, register, value)

@@ -30,7 +30,7 @@ pub fn judge_take(
     l: u32,
     room: usize,
 ) -> Taking
-    ensures { result ≡ judge_take (before s send receive bytes notices) l room }
+    ensures { result ≡ judge_take (before s send.now receive.now bytes.now notices.now) l room }
 {
     if let Verdict::No(why) = sound::gate(s, send, receive, bytes.len(), notices.len()) {
         return Taking::No(why);

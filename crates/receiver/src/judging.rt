@@ -30,7 +30,7 @@ pub fn judge_receive(
     notices: &[u32],
     packet: &[u8],
 ) -> Receiving
-    ensures { result ≡ judge_receive (before s send receive bytes notices) packet.now }
+    ensures { result ≡ judge_receive (before s send.now receive.now bytes.now notices.now) packet.now }
 {
     if let Verdict::No(why) = sound::gate(s, send, receive, bytes.len(), notices.len()) {
         return Receiving::No(why);

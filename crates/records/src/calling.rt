@@ -41,7 +41,8 @@ fn call_whole(
     record: &[u8],
 ) -> Answer
     requires { length «record».now ≡ record_size }
-    ensures { Gives (before s send receive bytes notices) «record».now (leaves result send receive bytes notices) }
+    ensures { Gives (before s send.old receive.old bytes.old notices.old) «record».now
+        (leaves result send.new receive.new bytes.new notices.new) }
 {
     let first = words::get(record, 4);
     match record[0] {
@@ -80,7 +81,8 @@ pub(crate) fn call(
     notices: &mut [u32],
     record: &[u8],
 ) -> Answer
-    ensures { Gives (before s send receive bytes notices) «record».now (leaves result send receive bytes notices) }
+    ensures { Gives (before s send.old receive.old bytes.old notices.old) «record».now
+        (leaves result send.new receive.new bytes.new notices.new) }
 {
     if record.len() == RECORD_SIZE {
         call_whole(s, send, receive, bytes, notices, record)

@@ -8,7 +8,7 @@ use rules::{Queue, Saved};
 // "then reset by writing 0x80000000 to PCSR0": over the memories as they are lent.
 pub fn open(send: &mut [u32], receive: &mut [u32], bytes: &[u8], notices: &mut [u32]) -> Saved
     ensures { Opens send.old receive.old bytes.now notices.old
-        (after result send receive bytes notices) }
+        (after result send.new receive.new bytes.now notices.new) }
 {
     let none = Queue {
         place: 0,

@@ -40,8 +40,8 @@ fn step(
     at: usize,
 ) -> Progress
     requires { at + line_most ≤ length out.old }
-    ensures { Steps (before s send receive bytes notices) «record».now at out.old result
-        (after result.saved send receive bytes notices) out.new }
+    ensures { Steps (before s send.old receive.old bytes.old notices.old) «record».now at out.old result
+        (after result.saved send.new receive.new bytes.new notices.new) out.new }
 {
     let a = calling::call(s, send, receive, bytes, notices, record);
     let reply = a.reply;
@@ -61,7 +61,7 @@ pub fn run(
     out: &mut [u8],
 ) -> Progress
     requires { Roomy input.now out.old }
-    ensures { Runs (before s send receive bytes notices) input.now out.old result
+    ensures { Runs (before s send.old receive.old bytes.old notices.old) input.now out.old result
         send.new receive.new bytes.new notices.new out.new }
 {
     let mut saved = s;

@@ -146,7 +146,7 @@ pub fn judge_write(
     a: u32,
     v: u32,
 ) -> Writing
-    ensures { result ≡ judge_write (before s send receive bytes notices) a v }
+    ensures { result ≡ judge_write (before s send.now receive.now bytes.now notices.now) a v }
 {
     if !sizes_ok(send.len(), receive.len(), bytes.len(), notices.len()) {
         return Writing::No(Refusal::Sizes);

@@ -22,7 +22,7 @@ pub fn judge_read(
     notices: &[u32],
     a: u32,
 ) -> Reach
-    ensures { result ≡ judge_read (before s send receive bytes notices) (decode a) }
+    ensures { result ≡ judge_read (before s send.now receive.now bytes.now notices.now) (decode a) }
 {
     if let Verdict::No(why) = sound::gate(s, send, receive, bytes.len(), notices.len()) {
         return Reach::No(why);

@@ -1,4 +1,6 @@
 // The types of the engine, by value. What document 01 says of them stands in specs/, as definitions.
+#![tactic(auto)]
+
 mod queues;
 pub mod sizes;
 

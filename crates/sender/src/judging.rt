@@ -31,7 +31,7 @@ pub fn judge_send(
     ready: bool,
     room: usize,
 ) -> Sending
-    ensures { result ≡ judge_send (before s send receive bytes notices) ready room }
+    ensures { result ≡ judge_send (before s send.now receive.now bytes.now notices.now) ready room }
 {
     if let Verdict::No(why) = sound::gate(s, send, receive, bytes.len(), notices.len()) {
         return Sending::No(why);

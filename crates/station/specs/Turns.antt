@@ -1,13 +1,10 @@
 -- What a turn of the station makes of bytes that came, and what its turns write together. Assumes nothing.
 -- The C functions read and write promise nothing of bytes: which bytes came, and that the lines went out, no contract can say.
 use Rattle.std.specs.Prelude.{ℕ, ◌+◌, ◌-◌, ◌*◌, ◌/◌, ◌%◌, ◌^◌, ◌<◌, ◌≤◌, ◌≡◌, List, [], ◌++◌, eqb, length, take, drop, replicate}
-use Rattle.std.specs.Borrow.{Bor}
-use denote.Triple.Both.{Both}
 use Rattle.ground.specs.Choice.{pick}
 use Rattle.ground.specs.Lists.{part}
 use Rattle.rules.specs.Memory.{Machine, machine, send_size, receive_size, data_most, notices_most}
 use Rattle.rules.specs.Station.{record_size, first_machine, lines_from, station}
-use Rattle.laws.specs.Lent.{Slice}
 use Rattle.boundary.specs.Boundary.{saved_size, saved_of}
 use Rattle.lines.specs.Lines.{line_most}
 use Rattle.records.specs.Records.{machine_after}
@@ -47,10 +44,6 @@ came_in input n = part record_size n input
 abbrev pub hand_in : List ℕ → ℕ → ℕ → List ℕ
 hand_in input kept n = part (record_size - kept) (kept + n) input
 
--- A number that is lent, as a contract names it.
-abbrev pub Count : Type 0
-Count = Both (Bor ℕ) (Bor ℕ)
-
 -- Less than a record stands from one place to another.
 pub record Begins (input rest : List ℕ) (from to : ℕ) : Type 0 where
   pub order : from ≤ to
@@ -84,15 +77,6 @@ pub record Held : Type 0 where
 abbrev pub held : List ℕ → List ℕ → List ℕ → List ℕ → List ℕ → List ℕ → ℕ → Held
 held saved send receive bytes notices input kept =
     record { machine = machine (saved_of saved) send receive bytes notices; waits = waiting_in input kept }
-
--- As those of a turn have it when it begins, and when it ends.
-abbrev pub held_before : Slice → Slice → Slice → Slice → Slice → Slice → Count → Held
-held_before saved send receive bytes notices input kept =
-    held saved.entry.now send.entry.now receive.entry.now bytes.entry.now notices.entry.now input.entry.now kept.entry.now
-
-abbrev pub held_after : Slice → Slice → Slice → Slice → Slice → Slice → Count → Held
-held_after saved send receive bytes notices input kept =
-    held saved.exit.now send.exit.now receive.exit.now bytes.exit.now notices.exit.now input.exit.now kept.exit.now
 
 -- "Memories are the largest, zero"; and words for the saved state.
 pub record Zeros (saved send₀ receive₀ bytes₀ notices₀ : List ℕ) : Type 0 where

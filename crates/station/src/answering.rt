@@ -52,7 +52,7 @@ pub(crate) fn answer(
     n: usize,
 ) -> Answered
     requires { Filled input.old out.old rest.old kept n }
-    ensures { Answers (before s send receive bytes notices) n (hand_in input.old kept n) result
+    ensures { Answers (before s send.old receive.old bytes.old notices.old) n (hand_in input.old kept n) result
         send.new receive.new bytes.new notices.new input.new out.new }
 {
     let start = RECORD_SIZE - kept;

@@ -2,7 +2,7 @@
 // stands in the lent memories, so that nothing has to be handed over.
 ghost use Rattle.std.specs.Prelude.{◌<◌};
 ghost use Rattle.rules.specs.Station.{record_size};
-ghost use Rattle.station.specs.Turns.{Zeros, Begun, held_before, held_after, came_in, Turnable, Turned, InTurns};
+ghost use Rattle.station.specs.Turns.{Zeros, Begun, held, came_in, Turnable, Turned, InTurns};
 
 use crate::answering::answer;
 
@@ -43,8 +43,9 @@ pub(crate) fn turn(
     requires { Turnable saved.old send.old receive.old bytes.old notices.old input.old
         out.old rest.old kept.old count.old n }
     ensures kept_lt_record_size { kept.new < record_size }
-    ensures turned { Turned (held_before saved send receive bytes notices input kept) count.old (came_in input.old n) result
-        (held_after saved send receive bytes notices input kept) count.new out.new }
+    ensures turned { Turned (held saved.old send.old receive.old bytes.old notices.old input.old kept.old) count.old
+        (came_in input.old n) result
+        (held saved.new send.new receive.new bytes.new notices.new input.new kept.new) count.new out.new }
 {
     let s = boundary::load(saved);
     let answered = answer(s, send, receive, bytes, notices, input, out, rest, *kept, n);

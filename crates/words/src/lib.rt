@@ -1,4 +1,6 @@
 // "Words are big-endian": words read from bytes and stored in them, copies to a place, rows of words.
+#![tactic(auto)]
+
 ghost use Rattle.std.specs.Prelude.{◌≡◌, ◌+◌, ◌*◌, ◌≤◌, length};
 ghost use Rattle.std.proofs.lemmas.List.Edits.{sets};
 ghost use Rattle.ground.specs.Bytes.{join, word_at, bytes_of, to_bytes};

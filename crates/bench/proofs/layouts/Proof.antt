@@ -6,8 +6,7 @@ use native.Mathlib.Omega.{arith}
 use Rattle.ground.specs.Field.{field, bit, pack, unpack, without}
 use Rattle.ground.proofs.Field.{bit_flag, with_same, with_above, with_below, without_same, without_above, without_below}
 use Rattle.rules.specs.Registers.{pcsr1}
-use Rattle.rules.specs.declared.Descriptor.{Descriptor}
-use Rattle.rules.specs.Words.{offset, meta_flag, meta_count, msg_size, meta_part, most24}
+use Rattle.rules.specs.Words.{offset, meta_flag, meta_count, meta_part, most24}
 use Rattle.rules.specs.Saved.{without_reset}
 use Rattle.rules.specs.Sending.{next_payload, next_header, after_packet}
 use Rattle.rules.specs.Packet.{packet_of}

@@ -19,7 +19,7 @@ finish_spec =
     (λ c.
     let number = c.before in
     record {
-      number = number.number_of.ensures;
+      number = number.number_of-number.ensures;
       saved = number.before.before.before.store.ensures;
-      answer = rw (← number.number_of.ensures, ← c.value_of.ensures);
+      answer = rw (← number.number_of-number.ensures, ← c.value_of.ensures);
     }))

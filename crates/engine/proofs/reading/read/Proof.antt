@@ -12,7 +12,7 @@ read_spec =
     (tie.spec
     (λ c κs. search rules)
     (λ c κs. search rules)
-    (λ c κs. readable _ _ (sym c.before.judge-read.ensures))
+    (λ c κs. readable _ _ (sym c.before.judge_read-reached.ensures))
     (λ c.
     let told = c.before in
-    read_whole _ _ told.decode.ensures told.before.judge-read.ensures (c.act-read.ensures.whole _ _)))
+    read_whole _ _ told.decode.ensures told.before.judge_read-reached.ensures (c.act_read.ensures.whole _ _)))

@@ -11,10 +11,10 @@ receive_spec =
     tie.close
     (tie.spec
     (λ c κs. search rules)
-    (λ c κs. receivable _ _ (sym c.before.before.before.judge-receive.ensures))
+    (λ c κs. receivable _ _ (sym c.before.before.before.judge_receive-receiving.ensures))
     (λ c. search rules)
     (λ c. search rules)
     (λ c. search rules)
     (λ c.
     let done = c.before.before.before.before.before.before in
-    receive_whole _ _ done.before.before.before.before.judge-receive.ensures (done.act-receive.ensures.whole _)))
+    receive_whole _ _ done.before.before.before.before.judge_receive-receiving.ensures (done.act_receive.ensures.whole _)))

@@ -11,11 +11,11 @@ send_spec =
     tie.close
     (tie.spec
     (λ c κs. search rules)
-    (λ c κs. sendable _ _ _ (sym c.before.before.before.before.judge-send.ensures))
+    (λ c κs. sendable _ _ _ (sym c.before.before.before.before.judge_send-sending.ensures))
     (λ c. search rules)
     (λ c. search rules)
     (λ c. search rules)
     (λ c. search rules)
     (λ c.
     let done = c.before.before.before.before.before.before.before.before in
-    send_whole _ _ _ done.before.before.before.before.before.judge-send.ensures done.act-send.ensures.whole))
+    send_whole _ _ _ done.before.before.before.before.before.judge_send-sending.ensures done.act_send.ensures.whole))

@@ -11,10 +11,10 @@ take_spec =
     tie.close
     (tie.spec
     (λ c κs. search rules)
-    (λ c κs. takeable _ _ _ (sym c.before.before.before.judge-take.ensures))
+    (λ c κs. takeable _ _ _ (sym c.before.before.before.judge_take-taking.ensures))
     (λ c. search rules)
     (λ c. search rules)
     (λ c. search rules)
     (λ c.
     let done = c.before.before.before.before.before.before in
-    take_whole _ _ _ done.before.before.before.before.judge-take.ensures (done.act-take.ensures.whole _ _)))
+    take_whole _ _ _ done.before.before.before.before.judge_take-taking.ensures (done.act_take.ensures.whole _ _)))

@@ -11,10 +11,10 @@ write_spec =
     tie.close
     (tie.spec
     (λ c κs. search rules)
-    (λ c κs. writable _ _ _ (sym c.before.before.before.judge-write.ensures))
+    (λ c κs. writable _ _ _ (sym c.before.before.before.judge_write-writing.ensures))
     (λ c. search rules)
     (λ c. search rules)
     (λ c. search rules)
     (λ c.
     let done = c.before.before.before.before.before.before in
-    write_whole _ _ _ done.before.before.before.before.judge-write.ensures (done.act-write.ensures.whole _)))
+    write_whole _ _ _ done.before.before.before.before.judge_write-writing.ensures (done.act_write.ensures.whole _)))

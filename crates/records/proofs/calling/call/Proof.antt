@@ -23,6 +23,5 @@ call_spec =
     (λ c. search rules)
     (λ c. search rules)
     (λ c.
-    let torn = c.before.before.before.before.before in
-    let r = torn.before.before.before.before.before.before.args.«record».now in
-    gives r _ [] (call_torn r torn.if1.false) c.unknown.ensures))
+    let r = c.args.«record».now in
+    gives r _ [] (call_torn r c.if-record-eq-RECORD_SIZE.false) c.unknown.ensures))

@@ -32,59 +32,40 @@ call_whole_spec =
     (λ c. search rules)
     (λ c. search rules)
     (λ c.
-    let told = c.before.before.before.before.before.before.before.before.before.before.before.before in
-    let asked = told.before.before in
-    let start = asked.before.before.before.before.before.before in
-    let r = start.args.«record».now in
-    gives r _ [] (call_write r start.requires told.match.keys1) (rw (asked.get.ensures, c.before.before.before.before.before.before.before.get2.ensures) at c.before.before.before.before.before.before.write.ensures))
+    let r = c.args.«record».now in
+    gives r _ [] (call_write r c.requires c.in-1.is) (rw (c.get-first.ensures, c.get.ensures) at c.write.ensures))
     (λ c. search rules)
     (λ c. search rules)
     (λ c. search rules)
     (λ c. search rules)
     (λ c.
-    let told = c.before.before.before.before.before in
-    let asked = told.before.before in
-    let start = asked.before.before.before.before.before.before in
-    let r = start.args.«record».now in
-    gives r _ [] (call_read r start.requires told.match.keys2) (rw asked.get.ensures at c.read.ensures))
+    let r = c.args.«record».now in
+    gives r _ [] (call_read r c.requires c.in-2.is) (rw c.get-first.ensures at c.read.ensures))
     (λ c. search rules)
     (λ c. search rules)
     (λ c. search rules)
     (λ c. search rules)
     (λ c.
-    let told = c.before.before.before.before.before.before.before.before.before.before.before.before.before in
-    let asked = told.before.before in
-    let start = asked.before.before.before.before.before.before in
-    let r = start.args.«record».now in
-    gives r _ [] (call_receive r start.requires told.match.keys3) (rw c.before.before.before.before.before.before.before.before.before.before.before.before.packet-end.ensures.packet at c.before.before.before.before.before.before.receive2.ensures))
+    let r = c.args.«record».now in
+    gives r _ [] (call_receive r c.requires c.in-3.is) (rw c.packet_end-end.ensures.packet at c.receive.ensures))
     (λ c. search rules)
     (λ c. search rules)
     (λ c. search rules)
     (λ c. search rules)
     (λ c.
-    let told = c.before.before.before.before.before.before.before.before.before.before.before.before.before in
-    let asked = told.before.before in
-    let start = asked.before.before.before.before.before.before in
-    let r = start.args.«record».now in
-    gives r _ _ (call_send r start.requires told.match.keys4) (rw asked.get.ensures at c.before.before.before.before.before.before.before.send2.ensures))
+    let r = c.args.«record».now in
+    gives r _ _ (call_send r c.requires c.in-4.is) (rw c.get-first.ensures at c.send.ensures))
     (λ c. search rules)
     (λ c. search rules)
     (λ c. search rules)
     (λ c. search rules)
     (λ c.
-    let told = c.before.before.before.before.before.before.before.before.before.before.before in
-    let asked = told.before.before in
-    let start = asked.before.before.before.before.before.before in
-    let r = start.args.«record».now in
-    gives r _ _ (call_take r start.requires told.match.keys5) (rw asked.get.ensures at c.before.before.before.before.before.take.ensures))
+    let r = c.args.«record».now in
+    gives r _ _ (call_take r c.requires c.in-5.is) (rw c.get-first.ensures at c.take.ensures))
     (λ c. search rules)
     (λ c. search rules)
     (λ c. search rules)
     (λ c. search rules)
     (λ c.
-    let told = c.before.before.before.before.before in
-    let asked = told.before.before in
-    let start = asked.before.before.before.before.before.before in
-    let r = start.args.«record».now in
-    let other = told.match.rest in
-    gives r _ [] (call_unknown r start.requires other.0.0.0.0.1 other.0.0.0.1 other.0.0.1 other.0.1 other.1) c.unknown.ensures))
+    let r = c.args.«record».now in
+    gives r _ [] (call_unknown r c.requires (omega arith) (omega arith) (omega arith) (omega arith) (omega arith)) c.unknown.ensures))

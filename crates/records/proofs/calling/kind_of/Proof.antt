@@ -6,4 +6,4 @@ use Rattle.records.proofs.calling.kind_of.Tie as tie
 
 pub kind_of_spec : {M : Type 1} → statement M
 kind_of_spec =
-    tie.close (tie.spec (λ c. search rules) (λ c. kind_whole _ c.before.if1.true) (λ c. kind_torn _ c.if1.false))
+    tie.close (tie.spec (λ c. search rules) (λ c. kind_whole _ c.before.if-record-eq-RECORD_SIZE.true) (λ c. kind_torn _ c.if-record-eq-RECORD_SIZE.false))

@@ -12,5 +12,5 @@ packet_end_spec =
     (λ c. search rules)
     (λ c. search rules)
     (λ c. search rules)
-    (λ c. packet_to _ c.before.get.ensures c.if1.true)
-    (λ c. no_packet _ c.before.get.ensures c.if1.false))
+    (λ c. packet_to _ c.before.get-n.ensures c.if-n.true)
+    (λ c. no_packet _ c.before.get-n.ensures c.if-n.false))

@@ -15,4 +15,4 @@ open_spec =
     (λ c. search rules)
     (λ c. search rules)
     (λ c. search rules)
-    (λ c. record { reset = ap (λ (o : Outcome). o.machine) c.before.before.before.before.before.before.before.write.ensures }))
+    (λ c. record { reset = ap (λ (o : Outcome). o.machine) c.before.before.before.before.before.before.before.write-a.ensures }))

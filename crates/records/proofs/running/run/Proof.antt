@@ -12,7 +12,7 @@ use Rattle.records.proofs.running.run.Statement.{statement}
 use Rattle.records.proofs.running.run.Tie as tie
 
 -- A line for each record left has room, and what is left gives the rest.
-abbrev invariant-loop : tie.invariant-loop
+abbrev invariant-loop : tie.invariant-loop-at
 invariant-loop send₀ receive₀ bytes₀ notices₀ input out₀ saved₀ next₀ at₀ send receive bytes notices out saved next at =
     (at ≤ length input)
     × (line_most * ((length input - at + 191) / record_size) + next ≤ length out)
@@ -30,7 +30,7 @@ invariant-loop send₀ receive₀ bytes₀ notices₀ input out₀ saved₀ next
     next
     out
 
-abbrev decreases-loop : tie.decreases-loop
+abbrev decreases-loop : tie.decreases-loop-at
 decreases-loop send₀ receive₀ bytes₀ notices₀ input out₀ saved₀ next₀ at₀ send receive bytes notices out saved next at = length input - at
 
 pub run_spec : {M : Type 1} → statement M
@@ -49,8 +49,8 @@ run_spec =
     (λ c.
     let stepped = c.before.before.before.before.before.before.before.before.before.before.before in
     let end = stepped.before.before.before.before.before.before.before in
-    let l = end.before.before.loop in
-    let s = stepped.step.ensures in (
+    let l = end.before.before.loop-at in
+    let s = stepped.step-t.ensures in (
       omega arith,
       omega (arith, s.short),
       omega arith,
@@ -58,7 +58,7 @@ run_spec =
       omega arith,
       omega arith,
       omega arith,
-      onward c.before.before.before.before.before.before.before.before.before.before.before.before.before.before.before.before.before.before.before.before.before.before.before.before.before.before.before.args.input.now l.at end.record-end.result end.before.loop-test.true end.record-end.ensures s l.invariant.7,
+      onward c.before.before.before.before.before.before.before.before.before.before.before.before.before.before.before.before.before.before.before.before.before.before.before.before.before.before.before.args.input.now l.at end.record_end-end.result end.before.loop-at-test.true end.record_end-end.ensures s l.invariant.7,
     ))
     (λ c. omega arith)
     (λ c. omega arith)
@@ -66,6 +66,6 @@ run_spec =
     (λ c. omega arith)
     (λ c. omega arith)
     (λ c.
-    let l = c.before.loop in
-    let e = ended c.before.before.before.before.before.before.before.before.args.input.now l.at c.loop-test.false l.invariant.7 in
+    let l = c.before.loop-at in
+    let e = ended c.before.before.before.before.before.before.before.before.args.input.now l.at c.loop-at-test.false l.invariant.7 in
     record { state = e.0; lines = e.1; inside = omega arith }))

@@ -20,4 +20,4 @@ step_spec =
     let line = c.before.before in
     let kind = line.before in
     let called = kind.before.before.before.before.before.before.before.before.before.before.before in
-    stepped called.call.result called.call.ensures kind.kind-of.ensures line.put-line.ensures))
+    stepped called.call-a.result called.call-a.ensures kind.kind_of.ensures line.put_line-next.ensures))
