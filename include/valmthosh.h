@@ -1,4 +1,4 @@
-/* The calls of the engine for C. `rt lib` in crates/boundary_c makes the archive, out/libboundary_c.a there; examples/run shows how it is linked.
+/* The calls of the engine for C. `tools/archive` makes the archive, target/staticlib/libboundary.a; examples/run shows how it is linked.
  *
  * A slice is a pointer and its length: in words where it is of uint32_t, in bytes where it is of uint8_t. Slices must not overlap. No pointer may
  * be null, not even of an empty slice, and words stand at multiples of 4 bytes.
