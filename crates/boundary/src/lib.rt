@@ -1,5 +1,7 @@
 // The calls for C and Rust: plain slices and numbers, the saved state in 15 lent words, the answer in 3 (reply number, value, interrupts).
 // A saved slice of another length, or an answer of fewer words, is answered 13 (sizes), and nothing is written.
+#![tactic(auto)]
+
 mod read;
 mod receive;
 mod send;

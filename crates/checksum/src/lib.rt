@@ -1,4 +1,6 @@
 // "CRC-16, polynomial 0x1021, start 0xFFFF, unreflected, no final exclusive-or".
+#![tactic(auto)]
+
 ghost use Rattle.std.specs.Prelude.{◌≡◌};
 ghost use Rattle.rules.specs.Checksum.{bit_step, bit_steps, byte_step, check_from, check_of};
 

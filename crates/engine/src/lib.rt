@@ -1,4 +1,6 @@
 // The calls on a machine: the saved state by value, the memories lent. Each takes any input, and gives what document 01 says, in full.
+#![tactic(auto)]
+
 mod reading;
 mod receiving;
 mod refusing;

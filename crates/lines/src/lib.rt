@@ -1,4 +1,6 @@
 // "Each line: kind, word, value as 8 lowercase hex digits, interrupts", as bytes of a lent buffer.
+#![tactic(auto)]
+
 mod digits;
 mod reply_words;
 

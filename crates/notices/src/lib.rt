@@ -1,4 +1,6 @@
 // Notices: their blocks, postings with their interrupts, and the take.
+#![tactic(auto)]
+
 mod blocks;
 mod posting;
 mod taking;

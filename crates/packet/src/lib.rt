@@ -1,4 +1,6 @@
 // "Packet": formed in a lent room, read from a lent slice, its payload landed in data memory.
+#![tactic(auto)]
+
 ghost use Rattle.std.specs.Prelude.{◌≡◌};
 ghost use Rattle.rules.specs.Checksum.{check_of};
 ghost use Rattle.rules.specs.Packet.{header_covered};

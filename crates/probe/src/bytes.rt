@@ -1,7 +1,7 @@
-// Words and bytes from standard input and to standard output. Words are little-endian there; bytes are followed by zeros to a multiple of 4.
+// Words and bytes read and written. Words are little-endian there; bytes are followed by zeros to a multiple of 4.
 ghost use Rattle.std.specs.Prelude.{◌*◌, ◌≤◌, length};
 
-use libc::{STDIN_FILENO, STDOUT_FILENO};
+use std::io::{Read, Write};
 
 // The word of the same bytes from last to first.
 fn turned(w: u32) -> u32 {
@@ -34,23 +34,23 @@ fn store(page: &mut [u8], words: &[u32])
 }
 
 // Reads as many words as there is room for, by way of a page; false where the input ends before, or the page is smaller.
-pub(crate) fn read_words(words: &mut [u32], page: &mut [u8]) -> bool {
+pub(crate) fn read_words(from: &mut impl Read, words: &mut [u32], page: &mut [u8]) -> bool {
     if words.len() > page.len() / 4 {
         return false;
     }
     let n = words.len() * 4;
-    let got = io::read_full(STDIN_FILENO, &mut page[..n]);
+    let whole = from.read_exact(&mut page[..n]).is_ok();
     load(words, page);
-    got == n
+    whole
 }
 
 // Writes words, by way of a page; false where the output takes no more, or the page is smaller.
-pub(crate) fn write_words(words: &[u32], page: &mut [u8]) -> bool {
+pub(crate) fn write_words(to: &mut impl Write, words: &[u32], page: &mut [u8]) -> bool {
     if words.len() > page.len() / 4 {
         return false;
     }
     store(page, words);
-    io::write_all(STDOUT_FILENO, &page[..words.len() * 4])
+    to.write_all(&page[..words.len() * 4]).is_ok()
 }
 
 // So many zeros follow n bytes.
@@ -61,16 +61,15 @@ fn padding(n: usize) -> usize
 }
 
 // Reads as many bytes as there is room for, and the zeros behind them; false where the input ends before.
-pub(crate) fn read_bytes(bytes: &mut [u8]) -> bool {
+pub(crate) fn read_bytes(from: &mut impl Read, bytes: &mut [u8]) -> bool {
     let mut zeros = [0u8; 3];
     let n = padding(bytes.len());
-    let got = io::read_full(STDIN_FILENO, bytes);
-    got == bytes.len() && io::read_full(STDIN_FILENO, &mut zeros[..n]) == n
+    from.read_exact(bytes).is_ok() && from.read_exact(&mut zeros[..n]).is_ok()
 }
 
 // Writes bytes, and the zeros behind them; false where the output takes no more.
-pub(crate) fn write_bytes(bytes: &[u8]) -> bool {
+pub(crate) fn write_bytes(to: &mut impl Write, bytes: &[u8]) -> bool {
     let zeros = [0u8; 3];
     let n = padding(bytes.len());
-    io::write_all(STDOUT_FILENO, bytes) && io::write_all(STDOUT_FILENO, &zeros[..n])
+    to.write_all(bytes).is_ok() && to.write_all(&zeros[..n]).is_ok()
 }

@@ -1,11 +1,14 @@
 // The probe: raw cases from standard input, single calls on any state (tests/vectors/README.md has the format), and all that each leaves to
 // standard output. It ends at the end of the input and at a case beyond its rooms.
+#![tactic(auto)]
+
 mod bytes;
 mod calls;
 mod cases;
 
 use bytes::read_words;
 use cases::answer_case;
+use std::io::{Read, Write};
 
 // A case's head: three numbers and six sizes.
 const HEAD_WORDS: usize = 9;
@@ -17,6 +20,8 @@ fn size(n: u32) -> usize {
 
 // The next case is answered in parts of the memories and rooms; false where there is none, or none that they hold.
 fn turn(
+    from: &mut impl Read,
+    to: &mut impl Write,
     send: &mut [u32],
     receive: &mut [u32],
     data: &mut [u8],
@@ -26,7 +31,7 @@ fn turn(
     page: &mut [u8],
 ) -> bool {
     let mut head = [0u32; HEAD_WORDS];
-    if !read_words(&mut head, page) {
+    if !read_words(from, &mut head, page) {
         return false;
     }
     let sends = size(head[3]);
@@ -42,6 +47,8 @@ fn turn(
         return false;
     }
     answer_case(
+        from,
+        to,
         head[0],
         head[1],
         head[2],
@@ -55,7 +62,9 @@ fn turn(
     )
 }
 
-fn main() {
+fn main(rt: HostRuntime) {
+    let mut from = rt.stdin();
+    let mut to = rt.stdout();
     let mut send = [0u32; 2048];
     let mut receive = [0u32; 4096];
     let mut data = [0u8; 65536];
@@ -66,6 +75,8 @@ fn main() {
     let mut turns = u64::MAX;
     while turns > 0 {
         if !turn(
+            &mut from,
+            &mut to,
             &mut send,
             &mut receive,
             &mut data,

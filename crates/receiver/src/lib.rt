@@ -1,4 +1,6 @@
 // "Receipt, first failure decides": a packet judged by the table of steps, and what a receipt changes.
+#![tactic(auto)]
+
 mod acting;
 mod first_failure;
 mod judging;

@@ -1,4 +1,6 @@
 // The station's records: 192 bytes to a call of the engine, and a line for each.
+#![tactic(auto)]
+
 mod calling;
 mod opening;
 mod running;

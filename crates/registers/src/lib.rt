@@ -1,4 +1,6 @@
 // Registers: the map of their numbers, the word a read shows, and what a write stores.
+#![tactic(auto)]
+
 mod acting;
 mod judging;
 mod map;

@@ -1,4 +1,6 @@
 // A reply's number and value, by the cases of the enums; and the answer of a refusal.
+#![tactic(auto)]
+
 ghost use Rattle.std.specs.Prelude.{◌≡◌};
 ghost use Rattle.rules.specs.Replies.{refusal_number, reply_number, reply_value};
 ghost use Rattle.replies.specs.Refusing.{Refuses};

@@ -1,4 +1,6 @@
 // The send: which descriptor sends, its packet, and what that leaves.
+#![tactic(auto)]
+
 mod acting;
 mod choosing;
 mod forming;

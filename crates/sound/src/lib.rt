@@ -1,4 +1,6 @@
 // Replies 13 and 14: the sizes of the memories, and whether a machine is sound. Every function here only reads.
+#![tactic(auto)]
+
 mod descriptors;
 mod lists;
 mod registers;

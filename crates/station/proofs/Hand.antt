@@ -15,7 +15,7 @@ use Rattle.ground.proofs.Lists.{part_sets, part_add, length_part}
 use Rattle.rules.specs.Memory.{Machine}
 use Rattle.rules.specs.Station.{record_size, lines_from}
 use Rattle.records.specs.declared.running.Progress.{Progress}
-use Rattle.records.specs.Records.{machine_after, Roomy, Runs}
+use Rattle.records.specs.Records.{machine_after, Runs}
 use Rattle.station.specs.Turns.{answered_to, answered_of, waiting_of, waiting_in, hand_in, Begins, Filled, Answers}
 
 -- ---- which are answered
@@ -78,12 +78,6 @@ module _ {input out rest : List ℕ} {kept came to : ℕ} (f : Filled input out 
   pub end_inside : record_size - kept + to ≤ length input
   end_inside = omega (arith, f.less, f.fits, (nearly_all came (kept + came) e).0)
 
-  pub lines_fit : Roomy (part (record_size - kept) (record_size - kept + to - (record_size - kept)) input) out
-  lines_fit =
-      let long : length (part (record_size - kept) (record_size - kept + to - (record_size - kept)) input) ≡ record_size - kept + to - (record_size - kept) =
-      length_part (record_size - kept) (record_size - kept + to - (record_size - kept)) input (omega (arith, f.less, end_inside)) in
-      omega (arith, f.rooms.0, f.rooms.1, f.less, f.fits, (nearly_all came (kept + came) e).0, long)
-
   pub rest_begins : Begins input rest (record_size - kept + to) (record_size + came)
   rest_begins =
       let near = nearly_all came (kept + came) e in
@@ -94,9 +88,6 @@ module _ {input out rest : List ℕ} {kept came to : ℕ} (f : Filled input out 
         first = omega (arith, f.fits);
         room = omega (arith, f.rooms.2);
       }
-
-pub came_fits : {input out rest : List ℕ} {kept came : ℕ} → Filled input out rest kept came → Fits w64 (record_size + came)
-came_fits f = record { fits = omega (arith, f.rooms.0, f.fits) }
 
 -- The records up to their end were run, and the bytes from there on kept.
 pub answers : {m : Machine} {before out after : List ℕ} {t : Progress} {send receive bytes notices : List ℕ}

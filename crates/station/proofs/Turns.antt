@@ -3,8 +3,6 @@ use Prim.Native.Nat.{ℕ, ◌+◌, ◌-◌, ◌%◌, ◌<◌, ◌≤◌}
 use mathlib.Core.Path.{◌≡◌, refl, sym, ap, ◌∙◌}
 use mathlib.Core.List.{List, [], ◌++◌, append_assoc, append-nil}
 use native.Mathlib.Omega.{arith}
-use mir.Syntax.{w64}
-use mir.Val.{Fits}
 use lib.ListN.{length, length-append, length-drop, take, drop, take-append-drop, drop_of_length-le}
 use lib.Seq.{length-take-le, take-length}
 use Rattle.ground.specs.Lists.{part}
@@ -15,11 +13,11 @@ use Rattle.rules.specs.Saved.{reset_saved}
 use Rattle.rules.specs.Registers.{pcsr0_number}
 use Rattle.rules.specs.Calls.{writes, perform}
 use Rattle.rules.specs.Station.{record_size, zero_machine, first_machine, station}
-use Rattle.boundary.specs.Boundary.{saved_size, saved_of, words_of}
+use Rattle.boundary.specs.Boundary.{saved_of, words_of}
 use Rattle.records.specs.Records.{Opens}
 use Rattle.records.proofs.Rows.{in_parts}
 use Rattle.station.specs.declared.answering.Answered.{Answered}
-use Rattle.station.specs.Turns.{answered_to, answered_of, lines_of, waiting_in, came_in, hand_in, Answers, Held, held, Zeros, opened, Begun, gone_on, lines_now, Reads, none, ◌▸◌, read, after, written, Going, count_most, SoFar, Turnable, Turned, InTurns}
+use Rattle.station.specs.Turns.{answered_to, answered_of, lines_of, waiting_in, came_in, hand_in, Answers, Held, held, Zeros, Begun, gone_on, lines_now, Reads, none, ◌▸◌, read, after, written, Going, SoFar, Turnable, Turned, InTurns}
 use Rattle.station.proofs.Hand.{at_the_end, before_the_end, part_rest}
 
 -- ---- the lines of a turn
@@ -130,18 +128,6 @@ turned {before} {left} {came} {out} {next} state lines inside f =
             left = on f.reads f.left;
           };
     }
-
--- What it asks while it goes: the words of the saved state, and a count below 2^64.
-module _ {saved send receive bytes notices input out rest : List ℕ} {kept count n : ℕ}
-    (given : Turnable saved send receive bytes notices input out rest kept count n) where
-  pub words_kept : length saved ≡ saved_size
-  words_kept = given.words
-
-  pub counts : {k : ℕ} → k < count_most → Fits w64 (count + k)
-  counts h = record { fits = omega (arith, given.counts, h) }
-
-  pub few : n < count_most
-  few = omega (arith, given.filled.rooms.0, given.filled.fits)
 
 -- What came stands behind what waited.
 behind : (input : List ℕ) (kept n : ℕ) → kept < record_size → hand_in input kept n ≡ waiting_in input kept ++ came_in input n

@@ -1,5 +1,5 @@
 -- What a turn of the station makes of bytes that came, and what its turns write together. Assumes nothing.
--- The C functions read and write promise nothing of bytes: which bytes came, and that the lines went out, no contract can say.
+-- The reads and writes promise nothing of the system's bytes: which bytes came, and that the lines went out, no contract can say.
 use Rattle.std.specs.Prelude.{ℕ, ◌+◌, ◌-◌, ◌*◌, ◌/◌, ◌%◌, ◌^◌, ◌<◌, ◌≤◌, ◌≡◌, List, [], ◌++◌, eqb, length, take, drop, replicate}
 use Rattle.ground.specs.Choice.{pick}
 use Rattle.ground.specs.Lists.{part}

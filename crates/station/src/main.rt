@@ -1,29 +1,32 @@
 // The station: records of 192 bytes from standard input, a line for each to standard output. Whatever is at hand is read, every whole
 // record of it is answered, and the lines are written before more is waited for.
+#![tactic(auto)]
+
 mod answering;
 mod turning;
 
-ghost use Rattle.std.specs.Prelude.{◌≡◌, ◌+◌, ◌≤◌, length, take};
+ghost use Rattle.std.specs.Prelude.{◌≡◌, ◌+◌, ◌≤◌, IfOk, length, take};
 ghost use Rattle.rules.specs.Station.{record_size};
 
 use boundary::SAVED_WORDS;
-use libc::{STDIN_FILENO, STDOUT_FILENO};
 use lines::LINE_MOST;
 use rules::sizes::{DATA_MOST, NOTICES_MOST, RECEIVE_SIZE, RECORD_SIZE, SEND_SIZE};
+use std::io;
+use std::io::Read;
 use turning::{begin, turn};
 
-// Reads what is at hand behind the room's first record, where bytes may wait, and says how many bytes came: 0 at the end of the input.
-fn read_on(input: &mut [u8]) -> usize
+// One read of what is at hand, behind the room's first record, where bytes may wait; how many bytes came: 0 at the end of the input.
+// A failed read leaves the bytes that wait, too.
+fn read_on(from: &mut impl Read, input: &mut [u8]) -> io::Result<usize>
     requires { record_size ≤ length input.old }
-    ensures result_in_bounds { record_size + result ≤ length input.new }
+    ensures result_in_bounds { IfOk result (λ n. record_size + n ≤ length input.new) }
     ensures input_unchanged { take record_size input.new ≡ take record_size input.old }
 {
-    let behind = &mut input[RECORD_SIZE..];
-    let got = libc::read(STDIN_FILENO, behind);
-    io::count(got, behind)
+    from.read(&mut input[RECORD_SIZE..])
 }
 
-fn main() {
+fn main(rt: HostRuntime) -> io::Result<()> {
+    let mut from = rt.stdin();
     let mut saved = [0u32; SAVED_WORDS];
     let mut send = [0u32; SEND_SIZE];
     let mut receive = [0u32; RECEIVE_SIZE];
@@ -46,7 +49,7 @@ fn main() {
     );
     // Every loop has to be proved to end: so many bytes that no input has them.
     while count < 0x8000_0000_0000_0000 {
-        let n = read_on(&mut input);
+        let n = read_on(&mut from, &mut input)?;
         let next = turn(
             &mut saved,
             &mut send,
@@ -60,12 +63,11 @@ fn main() {
             &mut rest,
             &mut out,
         );
-        let written = io::write_all(STDOUT_FILENO, &out[..next]);
-        if !written {
-            break;
-        }
+        // Nothing is kept back: standard output has no buffer.
+        rt.write_all(&out[..next])?;
         if n == 0 {
             break;
         }
     }
+    Ok(())
 }

@@ -1,4 +1,6 @@
 // The tables in the RAMs: descriptors and slots, each read and stored whole; when a descriptor may go; where a list's words stand.
+#![tactic(auto)]
+
 mod descriptors;
 mod going;
 mod lists;

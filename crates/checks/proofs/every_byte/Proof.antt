@@ -4,10 +4,10 @@ use borrow.Author.Rules.{rules}
 use Rattle.checks.proofs.every_byte.Statement.{statement}
 use Rattle.checks.proofs.every_byte.Tie as tie
 
-abbrev invariant-loop : tie.invariant-loop
+abbrev invariant-loop : tie.invariant-loop-i
 invariant-loop bytes₀ i₀ bytes i = i ≤ 256
 
-abbrev decreases-loop : tie.decreases-loop
+abbrev decreases-loop : tie.decreases-loop-i
 decreases-loop bytes₀ i₀ bytes i = 256 - i
 
 pub every_byte_spec : {M : Type 1} → statement M

@@ -9,7 +9,8 @@ pub returns : goal.returns
 returns c =
     let gated = c.gate.ensures in
     unknown_whole _
-    (elim c.match-gate.branch
-    [ in-No w ↦ gated_no _ _ _ _ _ gated (λ why. why) _ w.in-No.is w.why-is
-    | in-Go w ↦ gated_go _ _ _ _ _ gated (λ why. why) w.in-Go.is w.why-is ])
+    (elim c.match-gate.branch [
+      | in-No w ↦ gated_no _ _ _ _ _ gated (λ why. why) _ w.in-No.is w.why-is
+      | in-Go w ↦ gated_go _ _ _ _ _ gated (λ why. why) w.in-Go.is w.why-is
+    ])
     (c.refuse.ensures.whole _ _ _ _ [])

@@ -6,10 +6,10 @@ use lib.ListN.{length}
 use Rattle.probe.proofs.bytes.load.Statement.{statement}
 use Rattle.probe.proofs.bytes.load.Tie as tie
 
-abbrev invariant-loop : tie.invariant-loop
+abbrev invariant-loop : tie.invariant-loop-i
 invariant-loop words₀ page i₀ words i = (length words ≡ length words₀) × (i ≤ length words₀)
 
-abbrev decreases-loop : tie.decreases-loop
+abbrev decreases-loop : tie.decreases-loop-i
 decreases-loop words₀ page i₀ words i = length words₀ - i
 
 pub load_spec : {M : Type 1} → statement M

@@ -6,10 +6,10 @@ use lib.ListN.{length}
 use Rattle.probe.proofs.bytes.store.Statement.{statement}
 use Rattle.probe.proofs.bytes.store.Tie as tie
 
-abbrev invariant-loop : tie.invariant-loop
+abbrev invariant-loop : tie.invariant-loop-i
 invariant-loop page₀ words i₀ page i = (length page ≡ length page₀) × (i ≤ length words)
 
-abbrev decreases-loop : tie.decreases-loop
+abbrev decreases-loop : tie.decreases-loop-i
 decreases-loop page₀ words i₀ page i = length words - i
 
 pub store_spec : {M : Type 1} → statement M

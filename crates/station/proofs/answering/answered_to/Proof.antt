@@ -6,4 +6,4 @@ use Rattle.station.proofs.answering.answered_to.Tie as tie
 
 pub answered_to_spec : {M : Type 1} → statement M
 answered_to_spec =
-    tie.close (tie.spec (λ c. search rules) (λ c. at_the_end _ _ c.if1.true) (λ c. before_the_end _ _ c.if1.false))
+    tie.close (tie.spec (λ c. search rules) (λ c. at_the_end _ _ c.if-n-eq0.true) (λ c. before_the_end _ _ c.if-n-eq0.false))
