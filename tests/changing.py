@@ -1,5 +1,6 @@
 """Changes of the definitions: how they are written down, made in a copy, and tried."""
 import multiprocessing
+import os
 import sys
 from collections import namedtuple
 from concurrent.futures import ProcessPoolExecutor
@@ -44,10 +45,10 @@ def made(change, crates):
 
 
 def try_all(changes, tried, heading='noticed at', width=28):
-    """Tries the changes on every core; a line for each; 0 if all were noticed, else 1."""
+    """Tries the changes on every core that this process may use; a line for each; 0 if all were noticed, else 1."""
     noticed = 0
     print(f'{"change":28} {heading:{width}} what was changed', flush=True)
-    with ProcessPoolExecutor(mp_context=multiprocessing.get_context('fork')) as pool:
+    with ProcessPoolExecutor(len(os.sched_getaffinity(0)), mp_context=multiprocessing.get_context('fork')) as pool:
         for change, result in zip(changes, pool.map(tried, changes)):
             noticed += result.noticed
             places = '; '.join(f'{place.old}  =>  {place.new}' for place in change.places)

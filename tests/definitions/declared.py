@@ -112,8 +112,8 @@ def read_data(declared, item):
 
 
 def read_operator(declared, item):
-    """`infixl 50 _▸_`."""
-    parts = re.fullmatch(r'infix([lr]) (\d+) _([^_\s]+)_', ' '.join(token.text for token in item.tokens))
+    """`infixl 50 ◌▸◌`."""
+    parts = re.fullmatch(r'infix([lr]) (\d+) ◌([^◌\s]+)◌', ' '.join(token.text for token in item.tokens))
     if not parts:
         raise NotKnown(item.file, item.line, 'an operator that is not between two things, or that has no side')
     declared.precedence[parts[3]] = (int(parts[2]), {'l': 'left', 'r': 'right'}[parts[1]])

@@ -23,10 +23,10 @@ class Definitions:
         names = load(crates)
         try:
             self.perform = names['perform']
-            self.first_machine = names['firstMachine']
-            self.kind_of = names['kindOf']
-            self.call_of = names['callOf']
-            self.line_of = names['lineOf']
+            self.first_machine = names['first_machine']
+            self.kind_of = names['kind_of']
+            self.call_of = names['call_of']
+            self.line_of = names['line_of']
             self.station = names['station']
         except KeyError as name:
             raise Missing(f'{crates} has no definition {name}') from name

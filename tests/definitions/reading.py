@@ -134,19 +134,10 @@ class Reader:
         return left
 
     def application(self):
-        """A head with its arguments. A projection after a space is of all that stands before it."""
+        """A head with its arguments."""
         head, arguments = self.tight(self.atom()), []
         while not self.is_end():
-            if self.ahead().kind == 'dot':
-                line = self.next().line
-                head = Project(line, self.applied(head, arguments), self.identifier())
-                arguments = []
-            else:
-                arguments.append(self.tight(self.atom()))
-        return self.applied(head, arguments)
-
-    @staticmethod
-    def applied(head, arguments):
+            arguments.append(self.tight(self.atom()))
         return Apply(head.line, head, tuple(arguments)) if arguments else head
 
     def is_end(self):
@@ -154,7 +145,7 @@ class Reader:
         return token.kind == 'end' or token.kind != 'text' and (token.text in ENDS or token.text in self.precedence)
 
     def tight(self, tree):
-        """A projection without a space before it is of the single thing it stands at."""
+        """A projection stands at what it is of, with no space; it binds tighter than an application."""
         while self.ahead().kind == 'dot' and self.ahead().tight and self.ahead(1).tight:
             line = self.next().line
             tree = Project(line, tree, self.identifier())

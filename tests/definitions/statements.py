@@ -28,8 +28,8 @@ RELATIONS = {
     '×': (2, 'right', '({} and {})'),
     '≡': (4, 'left', '({} == {})'),
     '≢': (4, 'left', '({} != {})'),
-    '<': (4, 'left', '({} < {})'),
-    '≤': (4, 'left', '({} <= {})'),
+    '<': (50, 'left', '({} < {})'),
+    '≤': (50, 'left', '({} <= {})'),
 }
 EQUATIONS = {'≡', '≢', '<', '≤'}
 
@@ -246,7 +246,7 @@ class Statements:
 def contracts(crates, crate):
     """By contract, the function that carries it, the statement's name."""
     source = (Path(crates) / crate / 'src' / 'lib.rt').read_text(encoding='utf-8')
-    return dict(re.findall(r'pub fn (\w+)\(\)\s+ensures \{ λ r\. ⌜ (\w+) ⌝ \}', source))
+    return dict(re.findall(r'pub fn (\w+)\(\)\s+ensures \{ (\w+) \}', source))
 
 
 def crate_of(crates, contract):

@@ -47,6 +47,11 @@ def python_name(name):
     return 'antt_' + spelled(name)
 
 
+def operator_name(sign):
+    """An operator as a function: a ring stands where each of the two goes."""
+    return f'◌{sign}◌'
+
+
 def field_name(name):
     """Fields keep their names where Python lets them: the tests look into records."""
     return name if name.isidentifier() and name.isascii() and not keyword.iskeyword(name) else 'field_' + spelled(name)
@@ -130,7 +135,7 @@ class FunctionWriter:
             self.match(tree.left, f'{on}[0]', tests, binds)
             self.match(tree.right, f'{on}[1:]', tests, binds)
         elif isinstance(tree, Infix):
-            self.match_constructor(tree, f'_{tree.operator}_', (tree.left, tree.right), on, tests, binds)
+            self.match_constructor(tree, operator_name(tree.operator), (tree.left, tree.right), on, tests, binds)
         elif isinstance(tree, (Name, Project)):
             self.match_name(tree, on, tests, binds)
         elif isinstance(tree, Apply) and isinstance(tree.head, Name) and tree.head.name in NUMBER_PATTERNS:
@@ -207,7 +212,7 @@ class FunctionWriter:
         """An operator; a row of ∷ is a single list."""
         if tree.operator != '∷':
             operands = [self.value(tree.left, scope), self.value(tree.right, scope)]
-            return self.call(Name(tree.line, f'_{tree.operator}_'), operands, scope)
+            return self.call(Name(tree.line, operator_name(tree.operator)), operands, scope)
         elements = []
         while isinstance(tree, Infix) and tree.operator == '∷':
             elements.append(self.value(tree.left, scope))

@@ -29,7 +29,7 @@ class Apply:
 
 @dataclass(frozen=True)
 class Project:
-    """`x .f`, and also `Enum.Variant`."""
+    """`x.f`, and also `Enum.Variant`."""
     line: int
     of: object
     field: str

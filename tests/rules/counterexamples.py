@@ -35,7 +35,7 @@ def run(*texts):
     for text in texts:
         outside = text.startswith('outside ')
         event = ('Event.outside', octets(text.partition(' ')[2])) if outside else ('Event.calls', call(text))
-        events = ('Run._▸_', events, event)
+        events = ('Run.◌▸◌', events, event)
     return events
 
 
