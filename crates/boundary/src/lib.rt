@@ -5,15 +5,15 @@
 mod read;
 mod receive;
 mod send;
+mod slices;
 mod take;
 mod unknown;
-mod words;
 mod write;
 
 pub use read::valmthosh_read;
 pub use receive::valmthosh_receive;
 pub use send::valmthosh_send;
+pub use slices::{ANSWER_WORDS, SAVED_WORDS, load, store};
 pub use take::valmthosh_take;
 pub use unknown::unknown_call;
-pub use words::{ANSWER_WORDS, SAVED_WORDS, load, store};
 pub use write::valmthosh_write;

@@ -3,7 +3,7 @@ ghost use Rattle.std.specs.Prelude.{[]};
 ghost use Rattle.rules.specs.Calls.{read_call};
 ghost use Rattle.boundary.specs.Boundary.{lent, Exports};
 
-use crate::words::{SIZES, finish, lent_ok, load};
+use crate::slices::{SIZES, finish, lent_ok, load};
 
 // A read of the register with that number.
 #[unsafe(no_mangle)]

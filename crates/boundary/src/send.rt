@@ -3,7 +3,7 @@ ghost use Rattle.std.specs.Prelude.{eqb};
 ghost use Rattle.rules.specs.Calls.{send_call};
 ghost use Rattle.boundary.specs.Boundary.{lent, ExportsFilling};
 
-use crate::words::{SIZES, finish, lent_ok, load};
+use crate::slices::{SIZES, finish, lent_ok, load};
 
 // A send into a packet room, with the fabric ready (1) or not (anything else).
 #[unsafe(no_mangle)]

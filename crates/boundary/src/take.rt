@@ -2,7 +2,7 @@
 ghost use Rattle.rules.specs.Calls.{take_call};
 ghost use Rattle.boundary.specs.Boundary.{lent, ExportsFilling};
 
-use crate::words::{SIZES, finish, lent_ok, load};
+use crate::slices::{SIZES, finish, lent_ok, load};
 
 // A take from the list with that number, into a notice room.
 #[unsafe(no_mangle)]

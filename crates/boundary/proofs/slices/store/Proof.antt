@@ -1,11 +1,11 @@
--- `boundary::words::store` meets its contract. Assumes nothing.
+-- `boundary::slices::store` meets its contract. Assumes nothing.
 use borrow.Author.Rules.{rules}
 use native.Mathlib.Omega.{arith}
 use lib.ListN.{length-set}
 use Rattle.boundary.specs.Boundary.{words_of}
 use Rattle.boundary.proofs.Ending.{full}
-use Rattle.boundary.proofs.words.store.Statement.{statement}
-use Rattle.boundary.proofs.words.store.Tie as tie
+use Rattle.boundary.proofs.slices.store.Statement.{statement}
+use Rattle.boundary.proofs.slices.store.Tie as tie
 
 pub store_spec : {M : Type 1} → statement M
 unfolding words_of

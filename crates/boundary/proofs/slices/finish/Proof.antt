@@ -1,8 +1,8 @@
--- `boundary::words::finish` meets its contract. Assumes nothing.
+-- `boundary::slices::finish` meets its contract. Assumes nothing.
 use borrow.Author.Rules.{rules}
 use lib.ListN.{length-set}
-use Rattle.boundary.proofs.words.finish.Statement.{statement}
-use Rattle.boundary.proofs.words.finish.Tie as tie
+use Rattle.boundary.proofs.slices.finish.Statement.{statement}
+use Rattle.boundary.proofs.slices.finish.Tie as tie
 
 pub finish_spec : {M : Type 1} → statement M
 finish_spec =
