@@ -1,4 +1,5 @@
-// The calls for C and Rust: plain slices and numbers, the saved state in 15 lent words, the answer in 3 (reply number, value, interrupts).
+// The calls over plain slices and numbers, the saved state in 15 lent words, the answer in 3 (reply number, value, interrupts). The crate
+// boundary_c exports them for C and Rust.
 // A saved slice of another length, or an answer of fewer words, is answered 13 (sizes), and nothing is written.
 #![tactic(auto)]
 

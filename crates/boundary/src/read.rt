@@ -6,8 +6,7 @@ ghost use Rattle.boundary.specs.Boundary.{lent, Exports};
 use crate::slices::{SIZES, finish, lent_ok, load};
 
 // A read of the register with that number.
-#[unsafe(no_mangle)]
-pub extern "C" fn valmthosh_read(
+pub fn valmthosh_read(
     saved: &mut [u32],
     send: &[u32],
     receive: &[u32],

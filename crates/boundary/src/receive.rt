@@ -6,8 +6,7 @@ ghost use Rattle.boundary.specs.Boundary.{lent, Exports};
 use crate::slices::{SIZES, finish, lent_ok, load};
 
 // A receipt of a packet.
-#[unsafe(no_mangle)]
-pub extern "C" fn valmthosh_receive(
+pub fn valmthosh_receive(
     saved: &mut [u32],
     send: &[u32],
     receive: &mut [u32],

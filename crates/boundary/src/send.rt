@@ -6,8 +6,7 @@ ghost use Rattle.boundary.specs.Boundary.{lent, ExportsFilling};
 use crate::slices::{SIZES, finish, lent_ok, load};
 
 // A send into a packet room, with the fabric ready (1) or not (anything else).
-#[unsafe(no_mangle)]
-pub extern "C" fn valmthosh_send(
+pub fn valmthosh_send(
     saved: &mut [u32],
     send: &mut [u32],
     receive: &mut [u32],

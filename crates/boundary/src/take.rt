@@ -5,8 +5,7 @@ ghost use Rattle.boundary.specs.Boundary.{lent, ExportsFilling};
 use crate::slices::{SIZES, finish, lent_ok, load};
 
 // A take from the list with that number, into a notice room.
-#[unsafe(no_mangle)]
-pub extern "C" fn valmthosh_take(
+pub fn valmthosh_take(
     saved: &mut [u32],
     send: &[u32],
     receive: &mut [u32],

@@ -6,8 +6,7 @@ ghost use Rattle.boundary.specs.Boundary.{lent, Exports};
 use crate::slices::{SIZES, finish, lent_ok, load};
 
 // A write of a value to the register with that number.
-#[unsafe(no_mangle)]
-pub extern "C" fn valmthosh_write(
+pub fn valmthosh_write(
     saved: &mut [u32],
     send: &mut [u32],
     receive: &mut [u32],
