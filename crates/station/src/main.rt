@@ -5,27 +5,26 @@
 mod answering;
 mod turning;
 
-ghost use Rattle.std.specs.Prelude.{◌≡◌, ◌+◌, ◌≤◌, IfOk, length, take};
+ghost use Rattle.std.specs.Prelude.{◌≡◌, ◌+◌, ◌≤◌, length, take};
 ghost use Rattle.rules.specs.Station.{record_size};
 
 use boundary::SAVED_WORDS;
 use lines::LINE_MOST;
 use rules::sizes::{DATA_MOST, NOTICES_MOST, RECEIVE_SIZE, RECORD_SIZE, SEND_SIZE};
-use std::io;
 use std::io::Read;
 use turning::{begin, turn};
 
-// One read of what is at hand, behind the room's first record, where bytes may wait; how many bytes came: 0 at the end of the input.
-// A failed read leaves the bytes that wait, too.
-fn read_on(from: &mut impl Read, input: &mut [u8]) -> io::Result<usize>
+// Reads what is at hand behind the room's first record, where bytes may wait, and says how many bytes came: 0 at the end of the input, and
+// where a read fails.
+fn read_on(from: &mut impl Read, input: &mut [u8]) -> usize
     requires { record_size ≤ length input.old }
-    ensures result_in_bounds { IfOk result (λ n. record_size + n ≤ length input.new) }
+    ensures result_in_bounds { record_size + result ≤ length input.new }
     ensures input_unchanged { take record_size input.new ≡ take record_size input.old }
 {
-    from.read(&mut input[RECORD_SIZE..])
+    from.read(&mut input[RECORD_SIZE..]).unwrap_or(0)
 }
 
-fn main(rt: HostRuntime) -> io::Result<()> {
+fn main(rt: HostRuntime) {
     let mut from = rt.stdin();
     let mut saved = [0u32; SAVED_WORDS];
     let mut send = [0u32; SEND_SIZE];
@@ -49,7 +48,7 @@ fn main(rt: HostRuntime) -> io::Result<()> {
     );
     // Every loop has to be proved to end: so many bytes that no input has them.
     while count < 0x8000_0000_0000_0000 {
-        let n = read_on(&mut from, &mut input)?;
+        let n = read_on(&mut from, &mut input);
         let next = turn(
             &mut saved,
             &mut send,
@@ -64,10 +63,11 @@ fn main(rt: HostRuntime) -> io::Result<()> {
             &mut out,
         );
         // Nothing is kept back: standard output has no buffer.
-        rt.write_all(&out[..next])?;
+        if rt.write_all(&out[..next]).is_err() {
+            break;
+        }
         if n == 0 {
             break;
         }
     }
-    Ok(())
 }

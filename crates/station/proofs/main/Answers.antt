@@ -9,21 +9,21 @@ use Rattle.station.proofs.main.Goals as goal
 pub turn-next-requires : goal.turn-next-requires
 turn-next-requires c =
     let inv = c.loop-count.invariant in
-    let same = c.read_on.auto.input in
+    let same = c.read_on-n.auto.input in
     record {
       words = inv.0;
       filled = record {
         rooms = (sym (same ∙ inv.5), sym inv.6, sym inv.7);
         less = inv.8;
-        fits = c.in_ok-n.ensures.result_in_bounds;
+        fits = c.read_on-n.ensures.result_in_bounds;
       };
       counts = search rules;
-      so_far = after_read (still_waits _ _ _ inv.8 (omega (arith, inv.5)) (omega (arith, inv.5, same)) c.read_on.ensures.input_unchanged) inv.9;
+      so_far = after_read (still_waits _ _ _ inv.8 (omega (arith, inv.5)) (omega (arith, inv.5, same)) c.read_on-n.ensures.input_unchanged) inv.9;
     }
 
 pub loop-count-smaller : goal.loop-count-smaller
 loop-count-smaller c =
-    omega (arith, c.turn-next.ensures.turned.counted, length_part record_size c.in_ok-n.n c.read_on.new.input c.in_ok-n.ensures.result_in_bounds, c.if-n-eq0.false, c.loop-count-test.true)
+    omega (arith, c.turn-next.ensures.turned.counted, length_part record_size c.read_on-n.result c.read_on-n.new.input c.read_on-n.ensures.result_in_bounds, c.if-n-eq0.false, c.loop-count-test.true)
 
 -- Some bytes came, so the next turn can go on.
 pub loop-count-preserved : goal.loop-count-preserved
@@ -37,5 +37,5 @@ loop-count-preserved c = (
   search rules,
   search rules,
   search rules,
-  c.turn-next.ensures.turned.goes_on (omega (arith, length_part record_size c.in_ok-n.n c.read_on.new.input c.in_ok-n.ensures.result_in_bounds, c.if-n-eq0.false)),
+  c.turn-next.ensures.turned.goes_on (omega (arith, length_part record_size c.read_on-n.result c.read_on-n.new.input c.read_on-n.ensures.result_in_bounds, c.if-n-eq0.false)),
 )
