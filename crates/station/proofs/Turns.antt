@@ -82,11 +82,6 @@ in_turns =
 
 -- ---- from turn to turn
 
--- Before the first turn nothing was read.
-pub at_first : {saved send receive bytes notices : List ℕ} {kept count : ℕ} (input : List ℕ) → Begun saved send receive bytes notices kept count
-    → SoFar (held saved send receive bytes notices input kept) count
-at_first input b = record { reads = none; going = tt; many = sym b.none; left = b.opens input }
-
 -- A read leaves the bytes that wait.
 pub still_waits : (input input₂ : List ℕ) (kept : ℕ) → kept < record_size → record_size ≤ length input → record_size ≤ length input₂
     → take record_size input₂ ≡ take record_size input → waiting_in input₂ kept ≡ waiting_in input kept

@@ -31,7 +31,7 @@ fn keep(input: &mut [u8], rest: &mut [u8], from: usize, to: usize) -> usize
 }
 
 // What the bytes at hand leave: the saved state, where their lines end, and how many bytes wait for the rest of their record.
-#[derive(Drop)]
+#[derive(Clone, Copy)]
 pub struct Answered {
     pub saved: Saved,
     pub next: usize,
