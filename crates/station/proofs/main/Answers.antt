@@ -14,7 +14,7 @@ turn-next-requires c =
       words = inv.0;
       filled = record {
         rooms = (sym (same ∙ inv.5), sym inv.6, sym inv.7);
-        less = inv.8;
+        less = omega (arith, inv.8);
         fits = c.read_on-n.ensures.result_in_bounds;
       };
       counts = search rules;
