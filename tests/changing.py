@@ -15,7 +15,7 @@ Result = namedtuple('Result', 'noticed words')
 
 def read_changes(path, names):
     """The changes of a text, or those named: a file's name, perhaps with `, refused by ..`, and indented below it `name: old => new`,
-    a line for each place of the change; # begins a comment."""
+    a line for each place of the change; # begins a comment, and \\n in a text begins the next line of the file."""
     changes, file, refuser = {}, None, None
     for line in path.read_text(encoding='utf-8').splitlines():
         if line.startswith(' '):
@@ -37,9 +37,10 @@ def made(change, crates):
     file = crates / change.file
     text = file.read_text(encoding='utf-8') if file.exists() else ''
     for place in change.places:
-        if text.count(place.old) != 1:
-            return Result(False, f'DOES NOT FIT: {place.old} stands there {text.count(place.old)} times')
-        text = text.replace(place.old, place.new)
+        old, new = (words.replace(r'\n', '\n') for words in place)
+        if text.count(old) != 1:
+            return Result(False, f'DOES NOT FIT: {place.old} stands there {text.count(old)} times')
+        text = text.replace(old, new)
     file.write_text(text, encoding='utf-8')
     return None
 

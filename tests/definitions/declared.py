@@ -3,7 +3,7 @@ import re
 from dataclasses import dataclass, field
 from pathlib import Path
 
-from library import FORMS, FUNCTIONS, NATIVE
+from library import CONSTRUCTORS, FORMS, FUNCTIONS, NATIVE
 from reading import PRECEDENCE, NotKnown, Reader, items_of
 from trees import Apply, Name
 
@@ -42,6 +42,9 @@ class Declared:
         self.types_with = {}        # 'Variant' -> the enums and data types that have it
         self.functions = {}
         self.precedence = dict(PRECEDENCE)
+        for of, variants in CONSTRUCTORS.items():
+            for name, arity in variants.items():
+                self.add_constructor(of, name, arity)
 
     def add_constructor(self, of, name, arity):
         self.constructors[f'{of}.{name}'] = arity
@@ -64,7 +67,7 @@ def read_enums(declared, path, file):
         if end == '{':
             raise NotKnown(file, line, f'a variant of {enum} with named fields')
         for variant in split_at_commas(body):
-            parts = re.fullmatch(r'(\w+)\s*(?:\((.*)\))?', variant, re.DOTALL)
+            parts = re.fullmatch(r'(\w+)\s*(?:\((.*)\)|= \w+)?', variant, re.DOTALL)
             if not parts:
                 raise NotKnown(file, line, f'a variant of {enum}: {variant!r}')
             declared.add_constructor(enum, parts[1], len(split_at_commas(parts[2] or '')))

@@ -54,6 +54,12 @@ FUNCTIONS = {
     'ascii': (1, ascii_codes),
 }
 
+# The constructors of its types that the definitions use: how many arguments.
+CONSTRUCTORS = {
+    'Option': {'Some': 1, 'None': 0},
+    'Result': {'Ok': 1, 'Err': 1},
+}
+
 # Written in antt as well, by means that are not translated: the function above stands for its clauses.
 NATIVE = {'ascii'}
 

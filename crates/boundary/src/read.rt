@@ -6,6 +6,7 @@ ghost use Rattle.boundary.specs.Boundary.{lent, Exports};
 use crate::slices::{SIZES, finish, lent_ok, load};
 
 // A read of the register with that number.
+#[tactic(auto, using(crate::proofs::Ending::refuses, crate::proofs::Ending::sized, crate::proofs::Ending::writable))]
 pub fn valmthosh_read(
     saved: &mut [u32],
     send: &[u32],

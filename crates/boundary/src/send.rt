@@ -6,6 +6,7 @@ ghost use Rattle.boundary.specs.Boundary.{lent, ExportsFilling};
 use crate::slices::{SIZES, finish, lent_ok, load};
 
 // A send into a packet room, with the fabric ready (1) or not (anything else).
+#[tactic(auto, using(crate::proofs::Ending::refuses, crate::proofs::Ending::sized, crate::proofs::Ending::writable))]
 pub fn valmthosh_send(
     saved: &mut [u32],
     send: &mut [u32],

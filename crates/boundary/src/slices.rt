@@ -2,7 +2,7 @@
 ghost use Rattle.std.specs.Prelude.{◌≡◌, length};
 ghost use Rattle.boundary.specs.Boundary.{saved_size, lent_ok, saved_of, words_of, Writable, Ends};
 
-use rules::{Answer, Queue, Saved};
+use rules::{Answer, Queue, Refusal, Saved};
 
 // A saved state has so many words.
 pub const SAVED_WORDS: usize = 15;
@@ -11,7 +11,7 @@ pub const SAVED_WORDS: usize = 15;
 pub const ANSWER_WORDS: usize = 3;
 
 // "sizes", where these words are not lent.
-pub(crate) const SIZES: u32 = 13;
+pub(crate) const SIZES: u32 = Refusal::Sizes as u32;
 
 // They are lent, by the two lengths.
 pub(crate) fn lent_ok(saved: usize, answer: usize) -> bool
@@ -20,7 +20,8 @@ pub(crate) fn lent_ok(saved: usize, answer: usize) -> bool
     (saved == SAVED_WORDS) & (ANSWER_WORDS <= answer)
 }
 
-// The state that 15 words say.
+// The state that 15 words say. (No TryFrom, here and in `store`: of as many words as are asked for it can't fail.)
+#[tactic(auto, unfolding(crate::specs::Boundary::saved_of))]
 pub fn load(w: &[u32]) -> Saved
     requires { length w.now ≡ saved_size }
     ensures { result ≡ saved_of w.now }
@@ -51,25 +52,28 @@ pub fn load(w: &[u32]) -> Saved
 }
 
 // A state into 15 words.
+#[tactic(auto, unfolding(crate::specs::Boundary::words_of))]
 pub fn store(w: &mut [u32], s: Saved)
     requires { length w.old ≡ saved_size }
     ensures { w.new ≡ words_of s }
 {
-    w[0] = s.pcsr0;
-    w[1] = s.inthi;
-    w[2] = s.intlo;
-    w[3] = s.slots;
-    w[4] = s.taken;
-    w[5] = s.faulted;
-    w[6] = s.sendpointer;
-    w[7] = s.receivepointer;
-    w[8] = s.nqr.place;
-    w[9] = s.nqr.length;
-    w[10] = s.aqr.place;
-    w[11] = s.aqr.length;
-    w[12] = s.nbqr.place;
-    w[13] = s.nbqr.length;
-    w[14] = s.lastsender;
+    w.copy_from_slice(&[
+        s.pcsr0,
+        s.inthi,
+        s.intlo,
+        s.slots,
+        s.taken,
+        s.faulted,
+        s.sendpointer,
+        s.receivepointer,
+        s.nqr.place,
+        s.nqr.length,
+        s.aqr.place,
+        s.aqr.length,
+        s.nbqr.place,
+        s.nbqr.length,
+        s.lastsender,
+    ]);
 }
 
 // The state and the answer go into the lent words; the reply's number.
@@ -77,12 +81,8 @@ pub(crate) fn finish(saved: &mut [u32], answer: &mut [u32], a: Answer) -> u32
     requires { Writable saved.old answer.old }
     ensures { Ends a answer.old result saved.new answer.new }
 {
-    let s = a.saved;
-    store(saved, s);
-    let reply = a.reply;
-    let number = replies::number_of(reply);
-    answer[0] = number;
-    answer[1] = replies::value_of(reply);
-    answer[2] = a.interrupts;
+    store(saved, a.saved);
+    let number = a.reply.number();
+    words::copy(answer, 0, &[number, a.reply.value(), a.interrupts]);
     number
 }

@@ -5,6 +5,7 @@ ghost use Rattle.boundary.specs.Boundary.{lent, ExportsFilling};
 use crate::slices::{SIZES, finish, lent_ok, load};
 
 // A take from the list with that number, into a notice room.
+#[tactic(auto, using(crate::proofs::Ending::refuses, crate::proofs::Ending::sized, crate::proofs::Ending::writable))]
 pub fn valmthosh_take(
     saved: &mut [u32],
     send: &[u32],

@@ -6,6 +6,7 @@ ghost use Rattle.boundary.specs.Boundary.{lent, Exports};
 use crate::slices::{SIZES, finish, lent_ok, load};
 
 // An unknown call. C has none, since it names one of the five.
+#[tactic(auto, using(crate::proofs::Ending::refuses, crate::proofs::Ending::sized, crate::proofs::Ending::writable))]
 pub fn unknown_call(
     saved: &mut [u32],
     send: &[u32],

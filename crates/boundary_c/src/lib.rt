@@ -1,5 +1,5 @@
 // The calls of boundary for C and Rust programs that link a static library: each calls the one of its name there, and promises the same.
-// A lent slice is a pointer and its length.
+// A lent slice is a pointer and its length. (Each memory is a parameter of its own: that is what C calls.)
 #![tactic(auto)]
 
 ghost use Rattle.std.specs.Prelude.{[], eqb};

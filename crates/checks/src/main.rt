@@ -12,11 +12,7 @@ fn line(rt: &impl Print, name: &str, bytes: &[u8]) -> io::Result<()> {
 
 // Each byte once, from 0 to 255.
 fn every_byte() -> [u8; 256] {
-    let mut bytes = [0u8; 256];
-    for i in 0usize..256 {
-        bytes[i] = i as u8;
-    }
-    bytes
+    std::array::from_fn(|i| i as u8)
 }
 
 fn main(rt: HostRuntime) -> io::Result<()> {

@@ -21,6 +21,7 @@ use Rattle.demands.proofs.Blocks.{next}
 use Rattle.demands.proofs.View.{View, given, read_on, moved, May}
 use Rattle.demands.proofs.Ring.{entry, entries_length, entries_same, entries_push, entries_pop}
 use Rattle.demands.proofs.Sight.{below, below_at, below_same, below_upd, board_view, Quiet, quiet_view, quiet_same, quiet_nqr}
+use Rattle.std.specs.Prelude.{Option, Some, None}
 
 -- An act is allowed, and leads from one view to the other.
 pub record Step (a : Act) (v v' : View) : Type 0 where
@@ -106,12 +107,14 @@ take_view l b size lt room =
     })
 
 -- What a call has to post is posted, after stores that the view does not show.
-pub post_step : (p : Posting) (b b' : Board) → Quiet b b' → Listed p → can_post_all b.saved b.receive p ≡ true
+pub post_step : (p : Option Posting) (b b' : Board) → Quiet b b' → Listed p → can_post_all b.saved b.receive p ≡ true
     → b.saved.nbqr.place < 256 → length b.receive ≡ 2048 → Step (posting_act p) (board_view b) (board_view (post_all p b'))
 unfolding can_post_all post_all posting_act
-post_step Posting.Silent b b' q listed e inside size = record { may = tt; is = quiet_view q }
-post_step (Posting.On l n) b b' q listed e inside size =
-    let at : l.0 < lists = listed.low l n refl in
+post_step None b b' q listed e inside size = record { may = tt; is = quiet_view q }
+post_step (Some o) b b' q listed e inside size =
+    let l : ListIndex = o.list in
+    let n : Notice = o.notice in
+    let at : l.0 < lists = listed.low o refl in
     let s : Queue = b.saved.nbqr in
     let c = can_post_lem b.saved b.receive l e in
     record {

@@ -36,6 +36,8 @@ use Rattle.demands.proofs.Descriptors.{Rules, store_length, mark_length, direct_
 use Rattle.demands.proofs.Numbers.{Numbers, sender_set, counts_set, step_numbers, shown_numbers, number_numbers, aqr_numbers, nbqr_numbers, push_length, TokenFits, token_fits, post_numbers, post_length}
 use Rattle.demands.proofs.Steps.{slot_quiet, aqr_quiet}
 use Rattle.demands.proofs.Good.{tally, Good}
+use Rattle.std.specs.Prelude.{Option, Some, None, Result, Ok, Err}
+use Rattle.rules.specs.declared.Refusal.{Refusal}
 
 -- The three other memories keep their lengths, and the saved state, after these answers to receipts, and the descriptors are good.
 pub record Left (answered : List ℕ) (m m' : Machine) : Type 0 where
@@ -50,12 +52,12 @@ saved_left : {xs ys : List ℕ} (m : Machine) (s : Saved) → Good xs m → Numb
 saved_left m s g f = record { send = refl; receive = refl; bytes = refl; numbers = f; rules = g.rules }
 
 -- A read.
-read_left : {xs : List ℕ} (m : Machine) (r : Mapped) (x : Reach) → Good xs m → Left xs m (act_read m r x).machine
+read_left : {xs : List ℕ} (m : Machine) (r : Mapped) (x : Result Reach Refusal) → Good xs m → Left xs m (act_read m r x).machine
 unfolding act_read read_done
-read_left m r (Reach.No why) g = saved_left m m.saved g g.numbers
-read_left m r (Reach.Itself x) g = saved_left m _ g (step_numbers r _ (shown_numbers x m.saved m.receive g.numbers))
-read_left m r (Reach.InSend i) g = saved_left m _ g (step_numbers r m.saved g.numbers)
-read_left m r (Reach.InReceive i) g = saved_left m _ g (step_numbers r m.saved g.numbers)
+read_left m r (Err why) g = saved_left m m.saved g g.numbers
+read_left m r (Ok (Reach.Itself x)) g = saved_left m _ g (step_numbers r _ (shown_numbers x m.saved m.receive g.numbers))
+read_left m r (Ok (Reach.InSend i)) g = saved_left m _ g (step_numbers r m.saved g.numbers)
+read_left m r (Ok (Reach.InReceive i)) g = saved_left m _ g (step_numbers r m.saved g.numbers)
 
 -- A store in Send RAM.
 send_stored_lem : (w : SendStore) (v : ℕ) (send : List ℕ) (n : ℕ) → length send ≡ 1024 → OfSendStore send n v w → Rules send n
@@ -76,27 +78,27 @@ receive_stored_lem (ReceiveStore.FirstBlock l b) v receive = simp length-set
 receive_stored_lem (ReceiveStore.ListToken l) v receive = length-set receive (token_word l) v
 
 -- A write that is no reset.
-write_left : {xs : List ℕ} (m : Machine) (r : Mapped) (v : ℕ) (w : Writing) → OfWrite m v w → writing_act w ≢ clears → Good xs m → Left xs m (act_write m r v w).machine
+write_left : {xs : List ℕ} (m : Machine) (r : Mapped) (v : ℕ) (w : Result Writing Refusal) → OfWrite m v w → writing_act w ≢ clears → Good xs m → Left xs m (act_write m r v w).machine
 unfolding act_write write_done writing_act
-write_left m r v (Writing.No why) h d g = saved_left m m.saved g g.numbers
-write_left m r v Writing.Reset h d g = absurd (d refl)
-write_left m r v (Writing.Sets n) h d g = saved_left m _ g (step_numbers r _ (number_numbers n v m.saved h g.numbers))
-write_left m r v (Writing.Gives b) h d g =
+write_left m r v (Err why) h d g = saved_left m m.saved g g.numbers
+write_left m r v (Ok Writing.Reset) h d g = absurd (d refl)
+write_left m r v (Ok (Writing.Sets n)) h d g = saved_left m _ g (step_numbers r _ (number_numbers n v m.saved h g.numbers))
+write_left m r v (Ok (Writing.Gives b)) h d g =
     let c : Board = board m.saved m.receive m.notices 0 in
     record { send = refl; receive = push_length b c; bytes = refl; numbers = step_numbers r _ (nbqr_numbers b c h.room g.numbers); rules = g.rules }
-write_left m r v (Writing.StoresSend w) h d g =
+write_left m r v (Ok (Writing.StoresSend w)) h d g =
     let x = send_stored_lem w v m.send (length m.bytes) h.0 h.1 g.rules in
     record { send = x.0; receive = refl; bytes = refl; numbers = step_numbers r m.saved g.numbers; rules = x.1 }
-write_left m r v (Writing.StoresReceive w) h d g =
+write_left m r v (Ok (Writing.StoresReceive w)) h d g =
     record { send = refl; receive = receive_stored_lem w v m.receive; bytes = refl; numbers = step_numbers r m.saved g.numbers; rules = g.rules }
 
 -- ---- receipts and sends
 
 -- What has room for its token has it after stores that change no token.
-token_quiet : (p : Posting) {b b' : Board} → Quiet b b' → b'.saved.nqr ≡ b.saved.nqr → Listed p → TokenFits b.saved.nqr b.receive p
+token_quiet : (p : Option Posting) {b b' : Board} → Quiet b b' → b'.saved.nqr ≡ b.saved.nqr → Listed p → TokenFits b.saved.nqr b.receive p
     → TokenFits b'.saved.nqr b'.receive p
-token_quiet Posting.Silent q e on h = tt
-token_quiet (Posting.On l n) q e on h = λ t. rw e (h (sym (ap enqueues (q.token l (on.low l n refl))) ∙ t))
+token_quiet None q e on h = tt
+token_quiet (Some o) q e on h = λ t. rw e (h (sym (ap enqueues (q.token o.list (on.low o refl))) ∙ t))
 
 -- An AQR entry, where one is needed and has room.
 aqr_left : {t f : ℕ} (p : Packet) (r : Receipt) (b : Board) → (needs_aqr p r ≡ true → b.saved.aqr.length < 256) → Numbers t f b.saved
@@ -127,18 +129,20 @@ payload_length_lem packet p (Receipt.Acks i v) bytes = refl
 payload_length_lem packet p (Receipt.Lands i v) bytes = length-sets bytes _ (payload_of packet)
 
 -- A receipt: the slot, the AQR entry, the posting, the count.
-receive_left : (xs : List ℕ) (m : Machine) (packet : List ℕ) (r : Receiving) → OfReceive m packet r → Good xs m
+receive_left : (xs : List ℕ) (m : Machine) (packet : List ℕ) (r : Result Receiving Refusal) → OfReceive m packet r → Good xs m
     → Left (xs ++ ((act_receive m packet r).reply ∷ [])) m (act_receive m packet r).machine
 unfolding act_receive received received_on_board has_room_for
-receive_left xs m packet (Receiving.No why) h g =
+receive_left xs m packet (Err why) h g =
     let n : ℕ = refusal_number why in
     let f = g.numbers in
     saved_left m m.saved g
     (counts_set m.saved f _ _
     (omega (arith, f.taken, sum_append (same 0) xs (n ∷ []), same_other 0 n (λ e. h.done (sym e))))
     (omega (arith, f.faulted, sum_append (same 9) xs (n ∷ []), same_other 9 n (λ e. h.fault (sym e)))))
-receive_left xs m packet (Receiving.ComesTo p r) h g =
-    let post : Posting = receipt_posting p r in
+receive_left xs m packet (Ok v) h g =
+    let p : Packet = v.packet in
+    let r : Receipt = v.receipt in
+    let post : Option Posting = receipt_posting p r in
     let b : Board = board m.saved m.receive m.notices 0 in
     let b₁ : Board = on_receive (slot_stored p r) b in
     let b₂ : Board = aqr_stored p r b₁ in
@@ -160,10 +164,10 @@ receive_left xs m packet (Receiving.ComesTo p r) h g =
     }
 
 -- A send, and one that waits.
-send_left : {xs : List ℕ} (m : Machine) (room : List ℕ) (s : Sending) → OfSend m (length room) s → Good xs m → Left xs m (act_send m room s).machine
+send_left : {xs : List ℕ} (m : Machine) (room : List ℕ) (s : Result Sending Refusal) → OfSend m (length room) s → Good xs m → Left xs m (act_send m room s).machine
 unfolding act_send sent
-send_left m room (Sending.No why) h g = saved_left m m.saved g g.numbers
-send_left m room (Sending.Sends i) h g =
+send_left m room (Err why) h g = saved_left m m.saved g g.numbers
+send_left m room (Ok (Sending.Sends i)) h g =
     let d : Descriptor = descriptor_at m.send i in
     let b : Board = board (with_last_sender i.0 m.saved) m.receive m.notices 0 in
     record {
@@ -175,7 +179,7 @@ send_left m room (Sending.Sends i) h g =
           (sender_set m.saved g.numbers i.0 h.low);
       rules = sent_rules m.send i (length m.bytes) h.sound.sized.send h.low h.rule g.rules;
     }
-send_left m room (Sending.Waits i) h g =
+send_left m room (Ok (Sending.Waits i)) h g =
     record {
       send = mark_length m.send i;
       receive = refl;
@@ -187,17 +191,17 @@ send_left m room (Sending.Waits i) h g =
 -- ---- takes, and any call
 
 -- A take.
-take_left : {xs : List ℕ} (m : Machine) (room : List ℕ) (t : Taking) → OfTake m (length room) t → Good xs m → Left xs m (act_take m room t).machine
+take_left : {xs : List ℕ} (m : Machine) (room : List ℕ) (t : Result Taking Refusal) → OfTake m (length room) t → Good xs m → Left xs m (act_take m room t).machine
 unfolding act_take take_block
-take_left m room (Taking.No why) h g = saved_left m m.saved g g.numbers
-take_left m room (Taking.Takes i b n) h g =
-    let r : List ℕ = set m.receive (place_word i) n.0 in
-    let c : Board = board m.saved r (set m.notices (next_word b) 0) 0 in
+take_left m room (Err why) h g = saved_left m m.saved g g.numbers
+take_left m room (Ok t) h g =
+    let r : List ℕ = set m.receive (place_word t.list) t.next.0 in
+    let c : Board = board m.saved r (set m.notices (next_word t.block) 0) 0 in
     record {
       send = refl;
-      receive = push_length b c ∙ length-set m.receive (place_word i) n.0;
+      receive = push_length t.block c ∙ length-set m.receive (place_word t.list) t.next.0;
       bytes = refl;
-      numbers = nbqr_numbers b c h.queue g.numbers;
+      numbers = nbqr_numbers t.block c h.queue g.numbers;
       rules = g.rules;
     }
 

@@ -23,6 +23,7 @@ use Rattle.laws.proofs.Sound.{tests}
 use Rattle.laws.proofs.Postings.{can_post_lem}
 use Rattle.demands.specs.Types.{Queue, Saved, BlockAddress, Posting, Number, Mapped, Register}
 use Rattle.demands.proofs.Access.{after_step, after_shown}
+use Rattle.std.specs.Prelude.{Option, Some, None}
 
 -- All of the saved state, with these counts: t taken, n faulted.
 pub record Numbers (t n : ℕ) (s : Saved) : Type 0 where
@@ -141,30 +142,30 @@ unfolding push_nbqr
 push_length a b = simp length-set
 
 -- NQR has room where a posting pushes a token.
-abbrev pub TokenFits : Queue → List ℕ → Posting → Type 0
-TokenFits nqr receive Posting.Silent = Unit {0}
-TokenFits nqr receive (Posting.On l n) = enqueues (token_of receive l) ≡ true → nqr.length < 256
+abbrev pub TokenFits : Queue → List ℕ → Option Posting → Type 0
+TokenFits nqr receive None = Unit {0}
+TokenFits nqr receive (Some o) = enqueues (token_of receive o.list) ≡ true → nqr.length < 256
 
 -- By the test before a posting.
-pub token_fits : (s : Saved) (receive : List ℕ) (p : Posting) → can_post_all s receive p ≡ true → TokenFits s.nqr receive p
+pub token_fits : (s : Saved) (receive : List ℕ) (p : Option Posting) → can_post_all s receive p ≡ true → TokenFits s.nqr receive p
 unfolding can_post_all
-token_fits s receive Posting.Silent e = tt
-token_fits s receive (Posting.On l n) e = (can_post_lem s receive l e).nqr
+token_fits s receive None e = tt
+token_fits s receive (Some o) e = (can_post_lem s receive o.list e).nqr
 
 -- After a posting.
-pub post_numbers : {t f : ℕ} (p : Posting) (b : Board) → TokenFits b.saved.nqr b.receive p → Numbers t f b.saved → Numbers t f (post_all p b).saved
+pub post_numbers : {t f : ℕ} (p : Option Posting) (b : Board) → TokenFits b.saved.nqr b.receive p → Numbers t f b.saved → Numbers t f (post_all p b).saved
 unfolding post_all post enqueue_token fill_head
-post_numbers Posting.Silent b h f = f
-post_numbers {t} {f = n} (Posting.On l w) b h f =
-    let x : ℕ = token_of b.receive l in
-    let c : Board = fill_head l w b in
+post_numbers None b h f = f
+post_numbers {t} {f = n} (Some o) b h f =
+    let x : ℕ = token_of b.receive o.list in
+    let c : Board = fill_head o.list o.notice b in
     let g : Numbers t n c.saved = queues_set b.saved f _ _ _ f.nqr f.aqr (ring_removed b.saved.nbqr f.nbqr) in
     pick_by (λ (y : Board). Numbers t n y.saved) (enqueues x) (λ e. nqr_numbers (token x) c (h e) g) (λ e. g)
 
 -- A posting keeps the length of Receive RAM.
-pub post_length : (p : Posting) (b : Board) → length (post_all p b).receive ≡ length b.receive
+pub post_length : (p : Option Posting) (b : Board) → length (post_all p b).receive ≡ length b.receive
 unfolding post_all post enqueue_token fill_head push_nqr
-post_length Posting.Silent b = refl
-post_length (Posting.On l n) b =
-    pick_holds (λ (x : Board). length x.receive ≡ length b.receive) (enqueues (token_of b.receive l))
+post_length None b = refl
+post_length (Some o) b =
+    pick_holds (λ (x : Board). length x.receive ≡ length b.receive) (enqueues (token_of b.receive o.list))
     (simp length-set) (simp length-set)

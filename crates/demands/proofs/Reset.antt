@@ -12,6 +12,7 @@ use Rattle.rules.specs.Sound.{is_sized, is_sound}
 use Rattle.rules.specs.Calls.{writes, perform, is_reset, judge_write, write_done, act_write, write_call}
 use Rattle.demands.specs.Types.{Writing, Number, Sizes, Unsound, BadValue, Mapped, Register}
 use Rattle.demands.specs.History.{begun}
+use Rattle.std.specs.Prelude.{Ok, Err}
 
 -- A reset that was accepted: what it met, and what it left.
 pub record Accepted (v : ℕ) (m : Machine) : Type 0 where
@@ -21,7 +22,7 @@ pub record Accepted (v : ℕ) (m : Machine) : Type 0 where
 
 -- A write that is judged by these tests: where its reply is done, all held.
 judged : (v : ℕ) (m : Machine) (a b c d : Bool) → d ≡ true
-    → let o = act_write m (Mapped.Single Register.Pcsr0) v (need a (Writing.No Sizes) (need b (Writing.No Unsound) (need c (Writing.No BadValue) (pick d Writing.Reset (Writing.Sets Number.Pcsr0))))) in
+    → let o = act_write m (Mapped.Single Register.Pcsr0) v (need a (Err Sizes) (need b (Err Unsound) (need c (Err BadValue) (pick d (Ok Writing.Reset) (Ok (Writing.Sets Number.Pcsr0)))))) in
     o.reply ≡ 0 → (a ≡ true) × (c ≡ true) × (o.machine ≡ reset v m)
 unfolding act_write write_done need pick stepped
 judged v m true true true true e h = (refl, refl, refl)

@@ -36,6 +36,8 @@ use Rattle.demands.proofs.View.{View, opened}
 use Rattle.demands.proofs.Ring.{entry, entries_same}
 use Rattle.demands.proofs.Sight.{below_at, below_upd, seen, view, alike_then, alike_set, alike_slots, seen_alike, Quiet, quiet_same, quiet_then, quiet_aqr}
 use Rattle.demands.proofs.Boards.{Step, heads, places, push_view, take_view, post_step}
+use Rattle.std.specs.Prelude.{Result, Ok, Err}
+use Rattle.rules.specs.declared.Refusal.{Refusal}
 
 -- A call that leaves the view.
 rest : {v v' : View} → v' ≡ v → Step rests v v'
@@ -48,14 +50,14 @@ step_queue : (r : Mapped) (s : Saved) → (stepped r s).nbqr ≡ s.nbqr
 step_queue r s = after_step (λ t. t.nbqr ≡ s.nbqr) s refl refl refl r
 
 -- A read.
-read_step : (m : Machine) (r : Mapped) (x : Reach) → view (act_read m r x).machine ≡ view m
+read_step : (m : Machine) (r : Mapped) (x : Result Reach Refusal) → view (act_read m r x).machine ≡ view m
 unfolding act_read read_done
-read_step m r (Reach.No why) = refl
-read_step m r (Reach.Itself x) =
+read_step m r (Err why) = refl
+read_step m r (Ok (Reach.Itself x)) =
     rw (step_queue r (shown_itself m.saved m.receive x).saved)
     (after_shown (λ t. seen t.nbqr m.receive m.notices ≡ view m) m.saved m.receive refl refl refl x)
-read_step m r (Reach.InSend i) = rw (step_queue r m.saved)
-read_step m r (Reach.InReceive i) = rw (step_queue r m.saved)
+read_step m r (Ok (Reach.InSend i)) = rw (step_queue r m.saved)
+read_step m r (Ok (Reach.InReceive i)) = rw (step_queue r m.saved)
 
 -- A number that is set leaves NBQR.
 number_queue : (n : Number) (v : ℕ) (s : Saved) → (number_set n v s).nbqr ≡ s.nbqr
@@ -106,15 +108,15 @@ store_step m (ReceiveStore.ListToken l) v size h =
     rest (seen_alike m.saved.nbqr m.notices (alike_set m.receive _ v (omega arith)))
 
 -- A write that is no reset.
-write_step : (m : Machine) (r : Mapped) (v : ℕ) (w : Writing) → OfWrite m v w → writing_act w ≢ clears
+write_step : (m : Machine) (r : Mapped) (v : ℕ) (w : Result Writing Refusal) → OfWrite m v w → writing_act w ≢ clears
     → Step (writing_act w) (view m) (view (act_write m r v w).machine)
 unfolding act_write write_done writing_act push_nbqr
-write_step m r v (Writing.No why) h d = rest refl
-write_step m r v Writing.Reset h d = absurd (d refl)
-write_step m r v (Writing.Sets n) h d = rest (rw (step_queue r (number_set n v m.saved), number_queue n v m.saved))
-write_step m r v (Writing.Gives b) h d = rw (step_queue r _) (record { may = h.free; is = push_view (board m.saved m.receive m.notices 0) h.size b h.room })
-write_step m r v (Writing.StoresSend w) h d = rest (rw (step_queue r m.saved))
-write_step m r v (Writing.StoresReceive w) h d = rw (step_queue r m.saved) (store_step m w v h.0 h.1)
+write_step m r v (Err why) h d = rest refl
+write_step m r v (Ok Writing.Reset) h d = absurd (d refl)
+write_step m r v (Ok (Writing.Sets n)) h d = rest (rw (step_queue r (number_set n v m.saved), number_queue n v m.saved))
+write_step m r v (Ok (Writing.Gives b)) h d = rw (step_queue r _) (record { may = h.free; is = push_view (board m.saved m.receive m.notices 0) h.size b h.room })
+write_step m r v (Ok (Writing.StoresSend w)) h d = rest (rw (step_queue r m.saved))
+write_step m r v (Ok (Writing.StoresReceive w)) h d = rw (step_queue r m.saved) (store_step m w v h.0 h.1)
 
 -- ---- receipts
 
@@ -150,11 +152,13 @@ counted_queue (Receipt.Acks i v) s = refl
 counted_queue (Receipt.Lands i v) s = refl
 
 -- A receipt.
-receive_step : (m : Machine) (packet : List ℕ) (r : Receiving) → OfReceive m packet r
+receive_step : (m : Machine) (packet : List ℕ) (r : Result Receiving Refusal) → OfReceive m packet r
     → Step (receiving_act r) (view m) (view (act_receive m packet r).machine)
 unfolding receiving_act act_receive received received_on_board has_room_for
-receive_step m packet (Receiving.No why) h = rest refl
-receive_step m packet (Receiving.ComesTo p r) h =
+receive_step m packet (Err why) h = rest refl
+receive_step m packet (Ok v) h =
+    let p : Packet = v.packet in
+    let r : Receipt = v.receipt in
     let b : Board = board m.saved m.receive m.notices 0 in
     let b₁ : Board = on_receive (slot_stored p r) b in
     let b₂ : Board = aqr_stored p r b₁ in
@@ -167,16 +171,16 @@ receive_step m packet (Receiving.ComesTo p r) h =
 -- ---- sends
 
 -- The notice is posted once the descriptor has moved on, which is not shown.
-send_step : (m : Machine) (room : List ℕ) (s : Sending) → OfSend m (length room) s → Step (sending_act m s) (view m) (view (act_send m room s).machine)
+send_step : (m : Machine) (room : List ℕ) (s : Result Sending Refusal) → OfSend m (length room) s → Step (sending_act m s) (view m) (view (act_send m room s).machine)
 unfolding sending_act act_send sent
-send_step m room (Sending.No why) h = rest refl
-send_step m room (Sending.Sends i) h =
+send_step m room (Err why) h = rest refl
+send_step m room (Ok (Sending.Sends i)) h =
     let d : Descriptor = descriptor_at m.send i in
     let b : Board = board m.saved m.receive m.notices 0 in
     let b₁ : Board = board (with_last_sender i.0 m.saved) m.receive m.notices 0 in
     post_step (send_posting d) b b₁ (record { queue = refl; alike = (quiet_same b).alike; token = λ l h. refl; notices = refl })
     h.listed h.posts h.sound.nbqr.place h.sound.sized.receive
-send_step m room (Sending.Waits i) h = rest refl
+send_step m room (Ok (Sending.Waits i)) h = rest refl
 
 -- ---- takes
 
@@ -195,11 +199,12 @@ notice_over p room e =
     one j h = get_or-append p (drop (length p) room) 0 j (omega arith)
 
 -- A take.
-take_step : (m : Machine) (room : List ℕ) (t : Taking) → OfTake m (length room) t
+take_step : (m : Machine) (room : List ℕ) (t : Result Taking Refusal) → OfTake m (length room) t
     → Step (taking_act (act_take m room t).room t) (view m) (view (act_take m room t).machine)
 unfolding taking_act act_take notice_at
-take_step m room (Taking.No why) h = rest refl
-take_step m room (Taking.Takes l b n) h =
+take_step m room (Err why) h = rest refl
+take_step m room (Ok t) h =
+    let l : ListIndex = t.list in
     let p : ℕ = place_of m.receive l in
     let k : Block (length m.notices) p = rw h.place at h.here in
     let onward : Block (length m.notices) (next m.notices p) = rw (h.next, h.place) at h.onward in

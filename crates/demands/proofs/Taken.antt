@@ -18,6 +18,8 @@ use Rattle.rules.specs.Calls.{receives, perform, gate, judge_receive, receipt_re
 use Rattle.laws.proofs.Sound.{tests}
 use Rattle.demands.specs.Types.{Saved, Receipt, Receiving}
 use Rattle.demands.proofs.Packets.{Long, long}
+use Rattle.std.specs.Prelude.{Result}
+use Rattle.rules.specs.declared.Refusal.{Refusal}
 
 module _ (s : List ℕ) where
   -- An ack "is 20 bytes", so that it has no body to be checked.
@@ -49,7 +51,7 @@ module _ (s : List ℕ) where
 pub taken_well : (m : Machine) (s : List ℕ) → (perform (receives s) m).reply ≡ 0 → well_formed s ≡ true
 unfolding perform receive_call judge_receive gate act_receive
 taken_well m s =
-    let P : Receiving → Type 0 = λ r. (act_receive m s r).reply ≡ 0 → well_formed s ≡ true in
+    let P : Result Receiving Refusal → Type 0 = λ r. (act_receive m s r).reply ≡ 0 → well_formed s ≡ true in
     need_holds P _ (λ _ z. absurd (omega arith)) λ _.
     need_holds P _ (λ _ z. absurd (omega arith)) λ _.
     need_holds P _ (λ _ z. absurd (omega arith)) λ _.

@@ -1,12 +1,12 @@
 -- The demands, each as a statement to be read beside it. Assumes nothing.
-use Rattle.std.specs.Prelude.{◌<◌, ◌≤◌, ◌≡◌, ◌≢◌, ℕ, ◌%◌, ◌^◌, Bool, true, List, [], ◌++◌, length, take}
+use Rattle.std.specs.Prelude.{Some, ◌<◌, ◌≤◌, ◌≡◌, ◌≢◌, ℕ, ◌%◌, ◌^◌, Bool, true, List, [], ◌++◌, length, take}
 use Rattle.rules.specs.Memory.{Machine, with_send, descriptors, lists}
 use Rattle.rules.specs.Packet.{packet_of, well_formed}
 use Rattle.rules.specs.Sending.{descriptor_at, is_active, next_sender, mark_stalled}
 use Rattle.rules.specs.Sound.{is_sized, is_sound}
 use Rattle.rules.specs.Replies.{Outcome}
 use Rattle.rules.specs.Calls.{Call, writes, reads, receives, sends, takes, unknown, perform, packet_from}
-use Rattle.demands.specs.Types.{DescriptorIndex, Found}
+use Rattle.demands.specs.Types.{DescriptorIndex}
 use Rattle.demands.specs.Runs.{Run, AtEachMoment, after}
 use Rattle.demands.specs.History.{begun, AfterReset, answers, handed, posted, taken}
 use Rattle.demands.specs.Places.{count, standing, found}
@@ -30,7 +30,7 @@ pub record Kept (m : Machine) (lent : List ℕ) (o : Outcome) : Type 0 where
   pub room : o.room ≡ lent
   pub machine : o.reply ≢ 15 → o.machine ≡ m
   pub marked : o.reply ≡ 15
-      → (d : DescriptorIndex) × (next_sender m.saved m.send m.receive ≡ Found.At d) × (o.machine ≡ with_send (mark_stalled m.send d) m)
+      → (d : DescriptorIndex) × (next_sender m.saved m.send m.receive ≡ Some d) × (o.machine ≡ with_send (mark_stalled m.send d) m)
 
 -- Every reply but done and fault is a refusal.
 pub record RefusalsAlterNothing : Type 0 where
@@ -48,7 +48,7 @@ pub record ReadAs (f : Fields) (packet : List ℕ) : Type 0 where
 -- What a send call wrote: the packet of the descriptor that was chosen.
 pub record Sent (m : Machine) (o : Outcome) : Type 0 where
   pub descriptor : DescriptorIndex
-  pub chosen : next_sender m.saved m.send m.receive ≡ Found.At descriptor
+  pub chosen : next_sender m.saved m.send m.receive ≡ Some descriptor
   pub packet : ReadAs (sent_fields m (descriptor_at m.send descriptor)) (take o.value o.room)
 
 -- "What the sender forms, the receiver reads back field for field": what an active descriptor forms and what a send call writes is the layout

@@ -1,11 +1,12 @@
 -- Runs of calls, and what each call does to blocks and notices, by its own verdict. Assumes nothing.
 use Rattle.ground.specs.Choice.{pick}
-use Rattle.std.specs.Prelude.{ℕ, List, eqb, length, get_or}
+use Rattle.std.specs.Prelude.{Option, Some, None, Result, Ok, Err, ℕ, List, eqb, length, get_or}
 use Rattle.rules.specs.Memory.{Machine, with_bytes, metadata_at}
 use Rattle.rules.specs.Receipt.{receipt_posting}
 use Rattle.rules.specs.Sending.{descriptor_at, send_posting}
 use Rattle.rules.specs.Calls.{Call, writes, reads, receives, sends, takes, unknown, perform, judge_write, judge_receive, judge_send, judge_take}
 use Rattle.demands.specs.Types.{ListIndex, BlockAddress, Notice, Posting, ReceiveStore, Writing, Receiving, Sending, Taking}
+use Rattle.rules.specs.declared.Refusal.{Refusal}
 
 -- ---- runs
 
@@ -59,38 +60,38 @@ store_act (ReceiveStore.FirstBlock l b) = opens l b
 store_act (ReceiveStore.ListToken l) = rests
 
 -- A write.
-unfoldable pub writing_act : Writing → Act
-writing_act (Writing.No why) = rests
-writing_act Writing.Reset = clears
-writing_act (Writing.Sets n) = rests
-writing_act (Writing.Gives b) = gives b
-writing_act (Writing.StoresSend w) = rests
-writing_act (Writing.StoresReceive w) = store_act w
+unfoldable pub writing_act : Result Writing Refusal → Act
+writing_act (Err why) = rests
+writing_act (Ok Writing.Reset) = clears
+writing_act (Ok (Writing.Sets n)) = rests
+writing_act (Ok (Writing.Gives b)) = gives b
+writing_act (Ok (Writing.StoresSend w)) = rests
+writing_act (Ok (Writing.StoresReceive w)) = store_act w
 
 -- What a receipt or a send has to post.
-unfoldable pub posting_act : Posting → Act
-posting_act Posting.Silent = rests
-posting_act (Posting.On l n) = posts l n
+unfoldable pub posting_act : Option Posting → Act
+posting_act None = rests
+posting_act (Some p) = posts p.list p.notice
 
 -- A receipt.
-unfoldable pub receiving_act : Receiving → Act
-receiving_act (Receiving.No why) = rests
-receiving_act (Receiving.ComesTo p r) = posting_act (receipt_posting p r)
+unfoldable pub receiving_act : Result Receiving Refusal → Act
+receiving_act (Err why) = rests
+receiving_act (Ok v) = posting_act (receipt_posting v.packet v.receipt)
 
 -- A send.
-unfoldable pub sending_act : Machine → Sending → Act
-sending_act m (Sending.No why) = rests
-sending_act m (Sending.Sends d) = posting_act (send_posting (descriptor_at m.send d))
-sending_act m (Sending.Waits d) = rests
+unfoldable pub sending_act : Machine → Result Sending Refusal → Act
+sending_act m (Err why) = rests
+sending_act m (Ok (Sending.Sends d)) = posting_act (send_posting (descriptor_at m.send d))
+sending_act m (Ok (Sending.Waits d)) = rests
 
 -- The notice in eight words.
 abbrev pub notice_in : List ℕ → Notice
 notice_in ws = record { word0 = get_or ws 0 0; word1 = get_or ws 1 0; word2 = get_or ws 2 0; metadata = metadata_at ws 4 }
 
 -- A take, with what the lent room then holds.
-unfoldable pub taking_act : List ℕ → Taking → Act
-taking_act room (Taking.No why) = rests
-taking_act room (Taking.Takes l b next) = gets l (notice_in room)
+unfoldable pub taking_act : List ℕ → Result Taking Refusal → Act
+taking_act room (Err why) = rests
+taking_act room (Ok t) = gets t.list (notice_in room)
 
 -- Any call, by the verdict that it acts on.
 unfoldable pub act : Call → Machine → Act

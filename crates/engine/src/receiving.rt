@@ -3,7 +3,7 @@ ghost use Rattle.std.specs.Prelude.{[], ◌≡◌};
 ghost use Rattle.rules.specs.Calls.{receive_call};
 ghost use Rattle.laws.specs.Lent.{before, leaves};
 
-use rules::{Answer, Saved};
+use rules::{Answer, Saved, Seen};
 
 // A receipt of a packet.
 pub fn receive(
@@ -17,6 +17,13 @@ pub fn receive(
     ensures { leaves result send.now receive.new bytes.new notices.new []
         ≡ receive_call (before s send.now receive.old bytes.old notices.old) packet.now }
 {
-    let receiving = receiver::judge_receive(s, send, receive, bytes, notices, packet);
+    let m = Seen {
+        saved: s,
+        send,
+        receive,
+        bytes,
+        notices,
+    };
+    let receiving = receiver::judge_receive(&m, packet);
     receiver::act_receive(receiving, s, receive, bytes, notices, packet)
 }

@@ -3,7 +3,7 @@ ghost use Rattle.std.specs.Prelude.{◌≡◌};
 ghost use Rattle.rules.specs.Calls.{send_call};
 ghost use Rattle.laws.specs.Lent.{before, fills};
 
-use rules::{Answer, Saved};
+use rules::{Answer, Saved, Seen};
 
 // A send, with the fabric ready or not, into a packet room.
 pub fn send(
@@ -18,6 +18,13 @@ pub fn send(
     ensures { fills result send.new receive.new bytes.now notices.new room.new
         ≡ send_call (before s send.old receive.old bytes.now notices.old) ready room.old }
 {
-    let sending = sender::judge_send(s, send, receive, bytes, notices, ready, room.len());
+    let m = Seen {
+        saved: s,
+        send,
+        receive,
+        bytes,
+        notices,
+    };
+    let sending = sender::judge_send(&m, ready, room.len());
     sender::act_send(sending, s, send, receive, bytes, notices, room)
 }

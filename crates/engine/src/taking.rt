@@ -3,7 +3,7 @@ ghost use Rattle.std.specs.Prelude.{◌≡◌};
 ghost use Rattle.rules.specs.Calls.{take_call};
 ghost use Rattle.laws.specs.Lent.{before, fills};
 
-use rules::{Answer, Saved};
+use rules::{Answer, Saved, Seen};
 
 // A take from the list with that number, into a notice room.
 pub fn take(
@@ -18,6 +18,13 @@ pub fn take(
     ensures { fills result send.now receive.new bytes.now notices.new room.new
         ≡ take_call (before s send.now receive.old bytes.now notices.old) list room.old }
 {
-    let taking = notices::judge_take(s, send, receive, bytes, notices, list, room.len());
+    let m = Seen {
+        saved: s,
+        send,
+        receive,
+        bytes,
+        notices,
+    };
+    let taking = notices::judge_take(&m, list, room.len());
     notices::act_take(taking, s, receive, notices, room)
 }

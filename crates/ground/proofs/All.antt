@@ -3,8 +3,21 @@ use Prim.Native.Nat.{ℕ, zero, suc, ◌+◌, ◌<◌}
 use native.Mathlib.Numerals.{add-one}
 use native.Mathlib.Decide.{dec_lt}
 use native.Mathlib.Omega.{arith}
-use mathlib.Core.Path.{◌≡◌, refl}
-use mathlib.Core.Bool.{Bool, true, ◌&&◌}
+use mathlib.Core.Path.{◌≡◌, refl, ap, ◌∙◌}
+use mathlib.Core.Bool.{Bool, true, ◌&&◌, and-true}
+use mathlib.Core.List.{[], ◌∷◌, ◌++◌, map-id}
+use denote.Param.Members.{Mut}
+use Rattle.std.specs.declared.ops.Range.{Range}
+use Rattle.std.specs.Fn.{Called}
+use Rattle.std.specs.Iterator.{ChecksAll, FoldsItems}
+use Rattle.std.specs.List.{fold, list_all, range_with_len}
+use Rattle.std.proofs.iter.Yields.{nat_range_steps}
+use Rattle.std.proofs.lemmas.Iterator.{YieldsList-from_range}
+use Rattle.std.proofs.lemmas.Iterator.Search.{all_from_yields_List}
+use Rattle.std.proofs.lemmas.Iterator.Consumers.{fold_from_yields_List}
+use Rattle.std.proofs.lemmas.List.FromFn.{map-range_with_len_more}
+use Rattle.std.proofs.lemmas.List.Folds.{list_all-append}
+use Rattle.std.proofs.lemmas.List.Sums.{fold-append}
 use Rattle.ground.specs.Choice.{all_below}
 use Rattle.ground.proofs.Tests.{and_left, and_right, and_both}
 
@@ -35,3 +48,34 @@ pub all_each : (p : ℕ → Bool) (n : ℕ) → ((i : ℕ) → i < n → p i ≡
 unfolding all_below
 all_each p zero f = refl
 all_each p (suc n) f = and_both (all_each p n (λ i l. f i (omega arith))) (f n (omega arith))
+
+-- One more number, counted up.
+counted_more : (n : ℕ) → range_with_len 0 (suc n) ≡ range_with_len 0 n ++ n ∷ []
+counted_more n = rw add-one at (simp map-id at (map-range_with_len_more (λ (k : ℕ). k) 0 n n (omega arith)))
+
+-- Each number below n, counted up: the library's word for a test of each is this one's.
+pub all_counted : (p : ℕ → Bool) (n : ℕ) → list_all p (range_with_len 0 n) ≡ all_below n p
+unfolding all_below
+all_counted p zero = refl
+all_counted p (suc n) =
+    ap (list_all p) (counted_more n) ∙ list_all-append p (range_with_len 0 n) (n ∷ []) ∙ rw (all_counted p n) (rw and-true)
+
+-- So is a fold that keeps whether the test held so far.
+pub all_folded : (p : ℕ → Bool) (n : ℕ) → fold (λ ok k. ok && p k) true (range_with_len 0 n) ≡ all_below n p
+unfolding all_below
+all_folded p zero = refl
+all_folded p (suc n) =
+    let turn : Bool → ℕ → Bool = λ ok k. ok && p k in
+    ap (fold turn true) (counted_more n) ∙ fold-append turn true (range_with_len 0 n) (n ∷ []) ∙ rw (all_folded p n)
+
+module _ {F : Type 0} {s : Range ℕ} {f : F} {r : Bool} {p : ℕ → Bool} {n : ℕ} where
+  -- What `(0..n).all(f)` answers, where f computes the test of each number and stays as it was.
+  pub all_of_range : {g : Mut F (ℕ × Unit {0}) Bool} {u : Range ℕ} → ChecksAll nat_range_steps g s f r u → s ≡ record { start = 0; end = n }
+      → ((x : ℕ) (b : Bool) (q : F) → Called g f (x, tt) b q → (q ≡ f) × (b ≡ p x)) → r ≡ all_below n p
+  all_of_range {u = u} ran e computes = all_from_yields_List p u f r ran (YieldsList-from_range 0 n n e (omega arith)) computes ∙ all_counted p n
+
+  -- What `(0..n).fold(true, f)` answers, where f keeps whether the test held so far.
+  pub all_of_fold : {g : Mut F (Bool × (ℕ × Unit {0})) Bool} → FoldsItems nat_range_steps g s f true r → s ≡ record { start = 0; end = n }
+      → ((a : Bool) (x : ℕ) (b : Bool) (q : F) → Called g f (a, (x, tt)) b q → (q ≡ f) × (b ≡ (a && p x))) → r ≡ all_below n p
+  all_of_fold {g = g} ran e computes =
+      fold_from_yields_List g (λ ok k. ok && p k) true r ran (YieldsList-from_range 0 n n e (omega arith)) computes ∙ all_folded p n

@@ -1,11 +1,12 @@
 -- Laws of words of four bytes and of the bytes of a row of words. Assumes nothing.
 use mathlib.Core.Path.{◌≡◌, refl, sym, ap, ◌∙◌}
-use mathlib.Core.List.{List, [], ◌∷◌, ◌++◌}
+use mathlib.Core.List.{List, [], ◌∷◌, ◌++◌, append_assoc}
 use Prim.Native.Nat.{ℕ, zero, suc, ◌+◌, ◌*◌, ◌/◌, ◌%◌, ◌^◌, ◌<◌, ◌≤◌}
 use native.Mathlib.Numerals.{add-one, add-two, add-three, add-four}
 use native.Mathlib.Omega.{arith}
 use lib.ListN.{length, get_or, take, drop}
-use lib.Seq.{sets, drop-cons, drop-length, get_or-append-add, get_or-append_seam}
+use lib.Seq.{sets, length-take-le, drop-cons, get_or-append-add, get_or-append_seam}
+use Rattle.std.proofs.lemmas.List.{take_more}
 use Rattle.ground.specs.Bytes.{join, word_at, bytes_of, to_bytes}
 use Rattle.ground.specs.Lists.{part}
 use Rattle.ground.proofs.Lists.{part_add, sets_append}
@@ -93,19 +94,23 @@ pub row_length : (ws : List ℕ) → length (to_bytes ws) ≡ length ws * 4
 row_length [] = refl
 row_length (w ∷ ws) = omega (arith, row_length ws)
 
--- A turn of a run of stores of words: one of the rest is stored.
-pub words_more : (l ws : List ℕ) (at i : ℕ) {t : List ℕ} → i < length ws → sets l (at + i * 4) (to_bytes (drop i ws)) ≡ t
-    → sets (sets l (at + i * 4) (bytes_of (get_or ws i 0))) (at + (i + 1) * 4) (to_bytes (drop (i + 1) ws)) ≡ t
-words_more l ws at i h e =
-    let k : at + (i + 1) * 4 ≡ at + i * 4 + 4 = omega arith in
-    rw (k, add-one i)
-    (sym (sets_append l (at + i * 4) (bytes_of (get_or ws i 0)) (to_bytes (drop (suc i) ws)))
-    ∙ ap (λ (x : List ℕ). sets l (at + i * 4) (to_bytes x)) (sym (drop-cons ws i 0 h))
-    ∙ e)
+-- The bytes of a row and of one word more.
+pub row_append : (vs ws : List ℕ) → to_bytes (vs ++ ws) ≡ to_bytes vs ++ to_bytes ws
+row_append [] ws = refl
+row_append (v ∷ vs) ws = ap (λ (x : List ℕ). bytes_of v ++ x) (row_append vs ws) ∙ sym (append_assoc (bytes_of v) (to_bytes vs) (to_bytes ws))
 
--- The end of a run of stores of words: no rest is left.
-pub words_all : (l ws : List ℕ) (at i : ℕ) {t : List ℕ} → i ≡ length ws → sets l (at + i * 4) (to_bytes (drop i ws)) ≡ t → l ≡ t
-words_all l ws at i h e = rw (h, drop-length ws) at e
+-- One word more of a row is stored.
+pub row_more : (l ws : List ℕ) (at i : ℕ) {m n : List ℕ} → m ≡ sets l at (to_bytes (take i ws)) → i < length ws
+    → n ≡ sets m (at + i * 4) (bytes_of (get_or ws i 0)) → n ≡ sets l at (to_bytes (take (i + 1) ws))
+row_more l ws at i e h f =
+    let w : ℕ = get_or ws i 0 in
+    let b : List ℕ = to_bytes (take i ws) in
+    let k : length b ≡ i * 4 = row_length (take i ws) ∙ ap (λ (x : ℕ). x * 4) (length-take-le i ws (omega arith)) in
+    f
+    ∙ ap (λ (x : List ℕ). sets x (at + i * 4) (bytes_of w)) e
+    ∙ ap (λ (x : ℕ). sets (sets l at b) (at + x) (bytes_of w)) (sym k)
+    ∙ sym (sets_append l at b (bytes_of w))
+    ∙ ap (sets l at) (sym (ap to_bytes (take_more ws i 0 h) ∙ row_append (take i ws) (w ∷ [])))
 
 -- The bytes of a word of 32 bits are bytes.
 pub bytes_of_lem : (w : ℕ) → w < 2 ^ 32 → Bytes (bytes_of w)

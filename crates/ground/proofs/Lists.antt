@@ -3,11 +3,11 @@ use mathlib.Core.Path.{◌≡◌, refl, sym, ap, ◌∙◌}
 use mathlib.Core.List.{List, [], ◌∷◌, ◌++◌, append_assoc}
 use Prim.Native.Nat.{ℕ, zero, suc, ◌+◌, ◌-◌, ◌<◌, ◌≤◌}
 use native.Mathlib.Nat.{add-zero, add-suc, suc-add}
-use native.Mathlib.Numerals.{add-one, add-two, add-three}
 use native.Mathlib.Omega.{arith}
 use lib.ListN.{length, get_or, set, take, drop, length-append, length-drop, length-set, take-append-drop}
-use lib.Seq.{sets, sets-eq, get_or-set_same, get_or-set_other, get_or-take, get_or-drop, drop-cons, drop-drop, drop-length, drop-append-le, drop-append_seam}
+use lib.Seq.{sets, sets-eq, get_or-set_same, get_or-set_other, get_or-take, get_or-drop, drop-drop, drop-append-le, drop-append_seam}
 use lib.Seq.{drop_at, take-add, take-append-le, take-append_seam, length-take-le, set_comm, set-set}
+use borrow.Rule.Slice.PartMut.{put_mid}
 use Rattle.ground.specs.Lists.{part, over, put_at}
 
 module _ {A : Type 0} where
@@ -36,10 +36,6 @@ module _ {A : Type 0} where
   sets_append l i [] b = ap (λ (k : ℕ). sets l k b) (sym (add-zero i))
   sets_append l i (x ∷ a) b =
       sets_append (set l i x) (suc i) a b ∙ ap (λ (k : ℕ). sets (sets l i (x ∷ a)) k b) (omega arith)
-
-  -- Four stores in a row are a run.
-  pub sets_four : (l : List A) (i : ℕ) (a b c e : A) → set (set (set (set l i a) (i + 1) b) (i + 2) c) (i + 3) e ≡ sets l i (a ∷ b ∷ c ∷ e ∷ [])
-  sets_four l i a b c e = rw (add-one, add-two, add-three)
 
   -- A store before a run of stores, in either order.
   set_sets : (l : List A) (i : ℕ) (a : A) (j : ℕ) (vs : List A) → i < j → sets (set l i a) j vs ≡ set (sets l j vs) i a
@@ -77,15 +73,10 @@ module _ {A : Type 0} where
       ∙ append_assoc (take i l) vs (drop (i + length vs) l)
       ∙ ap (λ (x : List A). take i l ++ (vs ++ x)) (sym (drop-drop (length vs) i l))
 
-  -- A turn of a run of stores: one of the rest is stored.
-  pub sets_more : (l s : List A) (at i : ℕ) (d : A) {t : List A} → i < length s → sets l (at + i) (drop i s) ≡ t
-      → sets (set l (at + i) (get_or s i d)) (at + (i + 1)) (drop (i + 1) s) ≡ t
-  sets_more l s at i d h e =
-      rw (add-one i, add-suc at i) (ap (λ (x : List A). sets l (at + i) x) (sym (drop-cons s i d h)) ∙ e)
-
-  -- The end of a run of stores: no rest is left.
-  pub sets_all : (l s : List A) (at i : ℕ) {t : List A} → i ≡ length s → sets l (at + i) (drop i s) ≡ t → l ≡ t
-  sets_all l s at i h e = rw (h, drop-length s) at e
+  -- What was written to the part from `at` on is a run of stores there.
+  pub part_written : (l vs ys : List A) (at k : ℕ) → at + length vs ≤ length l → k ≡ length vs → ys ≡ vs → put_mid at k l ys ≡ sets l at vs
+  unfolding put_at
+  part_written l vs ys at k h e f = rw (e, f) (sym (sets_put l at vs h))
 
   -- A part has as many elements as are asked for.
   pub length_part : (a n : ℕ) (d : List A) → a + n ≤ length d → length (part a n d) ≡ n

@@ -13,6 +13,7 @@ use Rattle.laws.specs.Types.{Refusal}
 use Rattle.laws.specs.Sound.{Sound}
 use Rattle.laws.specs.Verdicts.{Unfit, unsound, Refuses}
 use Rattle.laws.proofs.Sound.{sound}
+use Rattle.std.specs.Prelude.{Result, Ok, Err}
 
 -- A refusal that says nothing of the machine.
 pub plain : {m : Machine} {n : ℕ} → (n ≢ 0) × (n ≢ 9) × (n ≢ 15) × (n ≢ 13) × (n ≢ 14) → Refuses m n
@@ -26,13 +27,13 @@ pub unfit : {m : Machine} → Unfit m → Refuses m 14
 unfit h = record { done = omega arith; fault = omega arith; fabric = omega arith; sizes = λ e. absurd (omega arith); unsound = λ e. h }
 
 -- What holds of every outcome of the first two rows.
-pub gate_holds : {A : Type 0} (refuse : Refusal → A) (m : Machine) {rest : A} (P : A → Type 0)
-    → ((why : Refusal) → Refuses m (refusal_number why) → P (refuse why)) → (Sound m → P rest) → P (gate refuse m rest)
+pub gate_holds : {A : Type 0} (m : Machine) {rest : Result A Refusal} (P : Result A Refusal → Type 0)
+    → ((why : Refusal) → Refuses m (refusal_number why) → P (Err why)) → (Sound m → P rest) → P (gate m rest)
 unfolding gate
-gate_holds refuse m P stops goes =
+gate_holds m P stops goes =
     need_holds P (is_sized m) (λ e. stops _ (sizes e)) λ z. need_holds P (is_sound m) (λ e. stops _ (unfit (unsound e))) λ s. goes (sound m z s)
 
 -- A judgement that is no refusal: the machine is sound, and the rest decided.
-pub past_gate : {A : Type 0} (refuse : Refusal → A) (m : Machine) (rest : A) {v : A} → ((why : Refusal) → refuse why ≡ v → ⊥) → gate refuse m rest ≡ v
-    → Sound m × (rest ≡ v)
-past_gate refuse m rest {v} other = gate_holds refuse m (λ x. x ≡ v → Sound m × (rest ≡ v)) (λ why r e. absurd (other why e)) (λ s e. (s, e))
+pub past_gate : {A : Type 0} (m : Machine) (rest : Result A Refusal) {x : A} → gate m rest ≡ Ok x → Sound m × (rest ≡ Ok x)
+past_gate m rest {x} =
+    gate_holds m (λ r. r ≡ Ok x → Sound m × (rest ≡ Ok x)) (λ why r e. let z : ◌≡◌ {A = ℕ} 0 1 = cc in absurd (omega arith)) (λ s e. (s, e))

@@ -11,19 +11,20 @@ use Rattle.ground.proofs.Tests.{and_right, or_second, not_no}
 use Rattle.rules.specs.Words.{notifies}
 use Rattle.rules.specs.Memory.{lists}
 use Rattle.rules.specs.Queues.{is_empty, has_room}
-use Rattle.rules.specs.Notices.{head_of, token_of, enqueues, can_post}
+use Rattle.rules.specs.Notices.{posts_on, posting, head_of, token_of, enqueues, can_post}
 use Rattle.rules.specs.Sending.{is_last, send_posting, go_rule}
 use Rattle.laws.specs.Types.{Saved, ListIndex, Descriptor, Notice, Posting}
 use Rattle.laws.specs.Postings.{Listed, Open}
 use Rattle.laws.proofs.Sound.{tests, going}
+use Rattle.std.specs.Prelude.{None}
 
 -- A notice on a list is on that list alone.
-pub on_list_lem : {l : ListIndex} {m : Notice} → l.0 < lists → Listed (Posting.On l m)
-on_list_lem {l} low = record { low = λ k m e. let same : l ≡ k = cc in rw (← same) low }
+pub on_list_lem : {l : ListIndex} {m : Notice} → l.0 < lists → Listed (posts_on l m)
+on_list_lem {l} {m} low = record { low = λ q e. let same : posting l m ≡ q = cc in rw (← same) low }
 
 -- No notice is on none.
-pub on_none : Listed Posting.Silent
-on_none = record { low = λ l m e. let z : ◌≡◌ {A = ℕ} 0 1 = cc in absurd (omega arith) }
+pub on_none : Listed None
+on_none = record { low = λ q e. let z : ◌≡◌ {A = ℕ} 0 1 = cc in absurd (omega arith) }
 
 -- What a descriptor that keeps the go rule posts is on a list.
 pub send_listed : (d : Descriptor) (size data_length : ℕ) → go_rule d d.control1 size data_length ≡ true → Listed (send_posting d)

@@ -14,6 +14,8 @@ use Rattle.laws.specs.Sound.{Ranges, Sound}
 use Rattle.laws.specs.Verdicts.{Refuses, OfRead}
 use Rattle.laws.proofs.Sound.{pointer_inside}
 use Rattle.laws.proofs.Gate.{plain, gate_holds}
+use Rattle.std.specs.Prelude.{Result, Ok, Err}
+use Rattle.rules.specs.declared.Refusal.{Refusal}
 
 -- What a register number hands on: a descriptor's word, or the low byte of a page.
 abbrev HandsOn : Mapped → Type 0
@@ -49,11 +51,11 @@ unfolding decode
 decode_hands a = search (pick_holds HandsOn, mapped_hands)
 
 -- What is reached is a word of its RAM; only an unmapped number is refused.
-abbrev pub Held : Machine → Reach → Type 0
-Held m (Reach.No why) = Refuses m (refusal_number why)
-Held m (Reach.Itself x) = Unit {0}
-Held m (Reach.InSend i) = i < send_size
-Held m (Reach.InReceive i) = i < receive_size
+abbrev pub Held : Machine → Result Reach Refusal → Type 0
+Held m (Err why) = Refuses m (refusal_number why)
+Held m (Ok (Reach.Itself x)) = Unit {0}
+Held m (Ok (Reach.InSend i)) = i < send_size
+Held m (Ok (Reach.InReceive i)) = i < receive_size
 
 module _ (m : Machine) (ok : Ranges m.saved) where
   -- The two pointers.
@@ -81,13 +83,13 @@ module _ (m : Machine) (ok : Ranges m.saved) where
   reach_held a = by_map (decode a) (decode_hands a)
 
 -- On a sound machine.
-held_read : (m : Machine) (x : Reach) → Sound m → Held m x → OfRead m x
-held_read m (Reach.No why) f h = h
-held_read m (Reach.Itself r) f h = f
-held_read m (Reach.InSend i) f h = (f, h)
-held_read m (Reach.InReceive i) f h = (f, h)
+held_read : (m : Machine) (x : Result Reach Refusal) → Sound m → Held m x → OfRead m x
+held_read m (Err why) f h = h
+held_read m (Ok (Reach.Itself r)) f h = f
+held_read m (Ok (Reach.InSend i)) f h = (f, h)
+held_read m (Ok (Reach.InReceive i)) f h = (f, h)
 
 -- A read.
 pub of_read : (m : Machine) (a : ℕ) → OfRead m (judge_read m (decode a))
 unfolding judge_read
-of_read m a = gate_holds Reach.No m (OfRead m) (λ why r. r) λ f. held_read m (reach m.saved (decode a)) f (reach_held m f.ranges a)
+of_read m a = gate_holds m (OfRead m) (λ why r. r) λ f. held_read m (reach m.saved (decode a)) f (reach_held m f.ranges a)

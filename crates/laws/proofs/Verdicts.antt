@@ -14,27 +14,31 @@ use Rattle.rules.specs.Memory.{Machine, descriptors, descriptor, lists, list, bl
 use Rattle.rules.specs.Notices.{place_of}
 use Rattle.rules.specs.Packet.{packet_most, packet_of}
 use Rattle.rules.specs.Sending.{is_active, go_rule, is_ready, first_from, next_sender}
+use Rattle.rules.specs.Sound.{is_sized, is_sound}
 use Rattle.rules.specs.Replies.{refusal_number}
-use Rattle.rules.specs.Calls.{gate, receipt, judge_receive, sending_of, judge_send, judge_take}
-use Rattle.rules.specs.declared.Refusal.TheVariants.{NoRegister}
-use Rattle.laws.specs.Types.{DescriptorIndex, Descriptor, Receiving, Found, Sending, Taking}
+use Rattle.rules.specs.Calls.{why_unknown, receipt, judge_receive, sending_of, judge_send, judge_take}
+use Rattle.laws.specs.Types.{DescriptorIndex, Descriptor, Refusal, Receiving, Sending, Taking}
 use Rattle.laws.specs.Sound.{the_descriptor, Sound}
-use Rattle.laws.specs.Verdicts.{bad_next, Refuses, OfReceive, Chosen, OfSend, OfTake}
+use Rattle.laws.specs.Verdicts.{unsound, bad_next, Refuses, OfReceive, Chosen, OfSend, OfTake}
 use Rattle.laws.proofs.Sound.{is_block_lem, set_block}
-use Rattle.laws.proofs.Gate.{plain, unfit, gate_holds}
+use Rattle.laws.proofs.Gate.{plain, sizes, unfit, gate_holds}
 use Rattle.laws.proofs.Postings.{send_listed}
 use Rattle.laws.proofs.Receipts.{of_receipt, receipt_listed}
+use Rattle.std.specs.Prelude.{Option, Some, None, Result, Err}
 
 -- An unknown call.
-pub of_unknown : (m : Machine) → Refuses m (refusal_number (gate (λ why. why) m NoRegister))
-of_unknown m = gate_holds (λ why. why) m (λ why. Refuses m (refusal_number why)) (λ why r. r) (λ f. plain (omega arith))
+pub of_unknown : (m : Machine) → Refuses m (refusal_number (why_unknown m))
+unfolding why_unknown
+of_unknown m =
+    let P : Refusal → Type 0 = λ why. Refuses m (refusal_number why) in
+    need_holds P (is_sized m) sizes λ z. need_holds P (is_sound m) (λ e. unfit (unsound e)) λ s. plain (omega arith)
 
 -- A receive.
 pub of_receive : (m : Machine) (packet : List ℕ) → OfReceive m packet (judge_receive m packet)
 unfolding judge_receive
 of_receive m packet =
-    let P : Receiving → Type 0 = OfReceive m packet in
-    gate_holds Receiving.No m P (λ why r. r) λ f.
+    let P : Result Receiving Refusal → Type 0 = OfReceive m packet in
+    gate_holds m P (λ why r. r) λ f.
     need_holds P _ (λ e. plain (omega arith)) λ on.
     need_holds P _ (λ e. plain (omega arith)) λ whole.
     need_holds P _ (λ e. plain (omega arith)) λ room.
@@ -52,20 +56,20 @@ of_receive m packet =
 -- ---- send
 
 -- What the search finds is one of the four, and passes.
-found_first : (test : DescriptorIndex → Bool) (last k n : ℕ) (d : DescriptorIndex) → first_from test last k n ≡ Found.At d
+found_first : (test : DescriptorIndex → Bool) (last k n : ℕ) (d : DescriptorIndex) → first_from test last k n ≡ Some d
     → (d.0 < descriptors) × (test d ≡ true)
 unfolding first_from
 found_first test last k zero d e = let z : ◌≡◌ {A = ℕ} 0 1 = cc in absurd (omega arith)
 found_first test last k (suc n) d e =
     let at : DescriptorIndex = descriptor ((last + 1 + k) % descriptors) in
-    pick_by (λ (f : Found). f ≡ Found.At d → (d.0 < descriptors) × (test d ≡ true)) (test at)
+    pick_by (λ (f : Option DescriptorIndex). f ≡ Some d → (d.0 < descriptors) × (test d ≡ true)) (test at)
     (λ passes q. let same : at ≡ d = cc in let low : at.0 < descriptors = omega arith in rw (← same) (low, passes))
     (λ fails. found_first test last (k + 1) n d)
     e
 
 module _ (m : Machine) (room : ℕ) (f : Sound m) (long : packet_most ≤ room) where
   -- The next sender.
-  chosen : (i : DescriptorIndex) → next_sender m.saved m.send m.receive ≡ Found.At i → Chosen m room i
+  chosen : (i : DescriptorIndex) → next_sender m.saved m.send m.receive ≡ Some i → Chosen m room i
   unfolding next_sender is_ready
   chosen i e =
       let d : Descriptor = the_descriptor m i in
@@ -83,17 +87,17 @@ module _ (m : Machine) (room : ℕ) (f : Sound m) (long : packet_most ≤ room) 
       }
 
   -- What it does.
-  found_sends : (ready : Bool) (x : Found) → next_sender m.saved m.send m.receive ≡ x → OfSend m room (sending_of ready x)
+  found_sends : (ready : Bool) (x : Option DescriptorIndex) → next_sender m.saved m.send m.receive ≡ x → OfSend m room (sending_of ready x)
   unfolding sending_of
-  found_sends ready Found.Nothing e = plain (omega arith)
-  found_sends ready (Found.At i) e = pick_holds (OfSend m room) ready (chosen i e) (chosen i e)
+  found_sends ready None e = plain (omega arith)
+  found_sends ready (Some i) e = pick_holds (OfSend m room) ready (chosen i e) (chosen i e)
 
 -- A send.
 pub of_send : (m : Machine) (ready : Bool) (room : ℕ) → OfSend m room (judge_send m ready room)
 unfolding judge_send
 of_send m ready room =
-    let P : Sending → Type 0 = OfSend m room in
-    gate_holds Sending.No m P (λ why r. r) λ f.
+    let P : Result Sending Refusal → Type 0 = OfSend m room in
+    gate_holds m P (λ why r. r) λ f.
     need_holds P _ (λ e. plain (omega arith)) λ on.
     need_holds P _ (λ e. plain (omega arith)) λ long.
     need_holds P _ (λ e. plain (omega arith)) λ busy. found_sends m room f (leb-true packet_most room long) ready _ refl
@@ -103,10 +107,10 @@ of_send m ready room =
 pub of_take : (m : Machine) (l room : ℕ) → OfTake m room (judge_take m l room)
 unfolding judge_take
 of_take m l room =
-    let P : Taking → Type 0 = OfTake m room in
+    let P : Result Taking Refusal → Type 0 = OfTake m room in
     let p : ℕ = place_of m.receive (list l) in
     let n : ℕ = next_of m.notices (block p) in
-    gate_holds Taking.No m P (λ why r. r) λ f.
+    gate_holds m P (λ why r. r) λ f.
     need_holds P _ (λ e. plain (omega arith)) λ few.
     need_holds P _ (λ e. plain (omega arith)) λ long.
     need_holds P _ (λ e. plain (omega arith)) λ some.

@@ -22,6 +22,8 @@ use Rattle.laws.specs.Writing.{OfSendPart, OfReceivePart, Free, PlainWord, OfWri
 use Rattle.laws.proofs.Sound.{tests, sized, is_block_lem, sound}
 use Rattle.laws.proofs.Gate.{plain, sizes, unfit}
 use Rattle.laws.proofs.Reading.{Held, reach_held}
+use Rattle.std.specs.Prelude.{Result, Ok, Err}
+use Rattle.rules.specs.declared.Refusal.{Refusal}
 
 -- ---- what a word is
 
@@ -59,7 +61,7 @@ plain_word k h e =
 
 module _ (m : Machine) (v : ℕ) (known : Sized (length m.send) (length m.receive) (length m.bytes) (length m.notices)) where
   -- What a verdict says of this machine.
-  abbrev Says : Writing → Type 0
+  abbrev Says : Result Writing Refusal → Type 0
   Says w = OfWrite m v w
 
   -- PCSR0, of any machine.
@@ -93,7 +95,7 @@ module _ (m : Machine) (v : ℕ) (known : Sized (length m.send) (length m.receiv
       need_holds Says _ (λ e. plain (omega arith)) λ writable.
       need_holds Says _ (λ e. plain (omega arith)) λ still.
       need_holds Says _ (λ e. plain (omega arith)) λ rule.
-      pick_by (λ w. Says (Writing.StoresSend w)) (starts k v)
+      pick_by (λ w. Says (Ok (Writing.StoresSend w))) (starts k v)
       (λ go. (known.send, (h.0, or_second (not (starts k v)) _ rule (not_no go))))
       (λ stay. (known.send, (h.0, h.1, not-true _ writable, still, stay)))
 
@@ -102,7 +104,7 @@ module _ (m : Machine) (v : ℕ) (known : Sized (length m.send) (length m.receiv
   unfolding judge_receive_word
   of_receive_word (ReceivePart.OfSlot i k) h =
       need_holds Says _ (λ e. plain (omega arith)) λ writable.
-      pick_by (λ w. Says (Writing.StoresReceive w)) (eqb k 2)
+      pick_by (λ w. Says (Ok (Writing.StoresReceive w))) (eqb k 2)
       (λ e. (known.receive, h.0)) (λ e. (known.receive, (h.0, h.1, plain_word k writable e)))
   of_receive_word (ReceivePart.Head l) h =
       need_holds Says _ (λ e. plain (omega arith)) λ none.
@@ -111,15 +113,15 @@ module _ (m : Machine) (v : ℕ) (known : Sized (length m.send) (length m.receiv
   of_receive_word ReceivePart.Fixed h = plain (omega arith)
 
   -- Any of them.
-  of_reached : Ring m.saved.nbqr → (x : Reach) → Held m x → Says (judge_reached m x v)
+  of_reached : Ring m.saved.nbqr → (x : Result Reach Refusal) → Held m x → Says (judge_reached m x v)
   unfolding judge_reached
-  of_reached ring (Reach.No why) h = h
-  of_reached ring (Reach.Itself r) h = of_register ring r
-  of_reached ring (Reach.InSend i) h = of_send_word i h (send_part i) (send_part_lem i)
-  of_reached ring (Reach.InReceive i) h = of_receive_word (receive_part i) (receive_part_lem i)
+  of_reached ring (Err why) h = h
+  of_reached ring (Ok (Reach.Itself r)) h = of_register ring r
+  of_reached ring (Ok (Reach.InSend i)) h = of_send_word i h (send_part i) (send_part_lem i)
+  of_reached ring (Ok (Reach.InReceive i)) h = of_receive_word (receive_part i) (receive_part_lem i)
 
   -- Register number 0 is PCSR0.
-  pcsr0_reached : (a : ℕ) → a ≡ 0 → Reach.Itself Register.Pcsr0 ≡ reach m.saved (decode a)
+  pcsr0_reached : (a : ℕ) → a ≡ 0 → Ok (Reach.Itself Register.Pcsr0) ≡ reach m.saved (decode a)
   unfolding decode mapped single reach pick
   pcsr0_reached a e = rw e
 

@@ -2,12 +2,17 @@
 use Rattle.std.specs.Prelude.{ℕ, List}
 use Rattle.rules.specs.declared.Answer.{Answer}
 use Rattle.rules.specs.declared.Saved.{Saved}
+use Rattle.rules.specs.declared.Seen.{Seen}
 use Rattle.rules.specs.Memory.{Machine, machine}
 use Rattle.rules.specs.Replies.{Outcome, answered}
 
 -- The machine before the call.
 abbrev pub before : Saved → List ℕ → List ℕ → List ℕ → List ℕ → Machine
 before s send receive bytes notices = machine s send receive bytes notices
+
+-- The machine that is lent for reading.
+abbrev pub seen : Seen → Machine
+seen m = machine m.saved m.send.now m.receive.now m.bytes.now m.notices.now
 
 -- The machine after it, with that saved state.
 abbrev pub after : Saved → List ℕ → List ℕ → List ℕ → List ℕ → Machine

@@ -22,6 +22,5 @@ pub use Rattle.rules.specs.declared.ReceiveStore.{ReceiveStore}
 pub use Rattle.rules.specs.declared.Writing.{Writing}
 pub use Rattle.rules.specs.declared.Receipt.{Receipt}
 pub use Rattle.rules.specs.declared.Receiving.{Receiving}
-pub use Rattle.rules.specs.declared.Found.{Found}
 pub use Rattle.rules.specs.declared.Sending.{Sending}
 pub use Rattle.rules.specs.declared.Taking.{Taking}

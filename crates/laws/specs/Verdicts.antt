@@ -1,5 +1,5 @@
 -- What the verdict on each call but a write says of the machine that it was given on. Assumes nothing.
-use Rattle.std.specs.Prelude.{◌≡◌, ◌≢◌, true, false, List, ℕ, ◌<◌, ◌≤◌, length}
+use Rattle.std.specs.Prelude.{◌≡◌, ◌≢◌, Some, Result, Ok, Err, true, false, List, ℕ, ◌<◌, ◌≤◌, length}
 use Rattle.rules.specs.Memory.{Machine, send_size, receive_size, descriptors, lists, list, queue_size, block_size, block, is_block, next_of}
 use Rattle.rules.specs.Notices.{place_of, can_post_all}
 use Rattle.rules.specs.Packet.{packet_most, is_packet, packet_of}
@@ -8,7 +8,7 @@ use Rattle.rules.specs.Sending.{go_rule, send_posting, next_sender}
 use Rattle.rules.specs.Sound.{is_sized, is_sound}
 use Rattle.rules.specs.Replies.{refusal_number}
 use Rattle.rules.specs.Calls.{receipt}
-use Rattle.laws.specs.Types.{ListIndex, BlockAddress, DescriptorIndex, Packet, Reach, Receipt, Receiving, Found, Sending, Taking}
+use Rattle.laws.specs.Types.{ListIndex, BlockAddress, DescriptorIndex, Packet, Reach, Receipt, Refusal, Receiving, Sending, Taking}
 use Rattle.laws.specs.Sound.{Block, the_descriptor, Sound}
 use Rattle.laws.specs.Postings.{Listed}
 use Rattle.laws.specs.Receipts.{OfReceipt}
@@ -38,11 +38,11 @@ pub record Refuses (m : Machine) (reply : ℕ) : Type 0 where
 -- ---- read
 
 -- A read reaches a register, or a word of its RAM.
-abbrev pub OfRead : Machine → Reach → Type 0
-OfRead m (Reach.No why) = Refuses m (refusal_number why)
-OfRead m (Reach.Itself r) = Sound m
-OfRead m (Reach.InSend i) = Sound m × (i < send_size)
-OfRead m (Reach.InReceive i) = Sound m × (i < receive_size)
+abbrev pub OfRead : Machine → Result Reach Refusal → Type 0
+OfRead m (Err why) = Refuses m (refusal_number why)
+OfRead m (Ok (Reach.Itself r)) = Sound m
+OfRead m (Ok (Reach.InSend i)) = Sound m × (i < send_size)
+OfRead m (Ok (Reach.InReceive i)) = Sound m × (i < receive_size)
 
 -- ---- receive
 
@@ -56,9 +56,9 @@ pub record Comes (m : Machine) (packet : List ℕ) (p : Packet) (r : Receipt) : 
   pub listed : Listed (receipt_posting p r)
   pub room : has_room_for m.saved m.receive p r ≡ true
 
-abbrev pub OfReceive : Machine → List ℕ → Receiving → Type 0
-OfReceive m packet (Receiving.No why) = Refuses m (refusal_number why)
-OfReceive m packet (Receiving.ComesTo p r) = Comes m packet p r
+abbrev pub OfReceive : Machine → List ℕ → Result Receiving Refusal → Type 0
+OfReceive m packet (Err why) = Refuses m (refusal_number why)
+OfReceive m packet (Ok v) = Comes m packet v.packet v.receipt
 
 -- ---- send
 
@@ -66,17 +66,17 @@ OfReceive m packet (Receiving.ComesTo p r) = Comes m packet p r
 pub record Chosen (m : Machine) (room : ℕ) (i : DescriptorIndex) : Type 0 where
   pub sound : Sound m
   pub long : packet_most ≤ room
-  pub first : next_sender m.saved m.send m.receive ≡ Found.At i
+  pub first : next_sender m.saved m.send m.receive ≡ Some i
   pub low : i.0 < descriptors
   pub rule : go_rule (the_descriptor m i) (the_descriptor m i).control1 (the_descriptor m i).bytestogo (length m.bytes) ≡ true
   pub listed : Listed (send_posting (the_descriptor m i))
   pub posts : can_post_all m.saved m.receive (send_posting (the_descriptor m i)) ≡ true
 
 -- It sends or waits.
-abbrev pub OfSend : Machine → ℕ → Sending → Type 0
-OfSend m room (Sending.No why) = Refuses m (refusal_number why)
-OfSend m room (Sending.Sends i) = Chosen m room i
-OfSend m room (Sending.Waits i) = Chosen m room i
+abbrev pub OfSend : Machine → ℕ → Result Sending Refusal → Type 0
+OfSend m room (Err why) = Refuses m (refusal_number why)
+OfSend m room (Ok (Sending.Sends i)) = Chosen m room i
+OfSend m room (Ok (Sending.Waits i)) = Chosen m room i
 
 -- ---- take
 
@@ -91,6 +91,6 @@ pub record ReadersBlock (m : Machine) (room : ℕ) (l : ListIndex) (b n : BlockA
   pub here : Block (length m.notices) b.0
   pub onward : Block (length m.notices) n.0
 
-abbrev pub OfTake : Machine → ℕ → Taking → Type 0
-OfTake m room (Taking.No why) = Refuses m (refusal_number why)
-OfTake m room (Taking.Takes l b n) = ReadersBlock m room l b n
+abbrev pub OfTake : Machine → ℕ → Result Taking Refusal → Type 0
+OfTake m room (Err why) = Refuses m (refusal_number why)
+OfTake m room (Ok t) = ReadersBlock m room t.list t.block t.next

@@ -1,5 +1,5 @@
 -- What a word of a RAM is, and what the verdict on a write says of the machine and the value. Assumes nothing.
-use Rattle.std.specs.Prelude.{◌≡◌, ◌≢◌, true, false, not, ◌||◌, List, ℕ, ◌*◌, ◌<◌, ◌≤◌, leb, length}
+use Rattle.std.specs.Prelude.{◌≡◌, ◌≢◌, Result, Ok, Err, true, false, not, ◌||◌, List, ℕ, ◌*◌, ◌<◌, ◌≤◌, leb, length}
 use Rattle.rules.specs.Words.{msg_size}
 use Rattle.rules.specs.Memory.{Machine, send_size, receive_size, descriptors, descriptor_size, slots_most, slot_size, lists, queue_size, block, next_of}
 use Rattle.rules.specs.Saved.{resets, pcsr0_ok}
@@ -8,7 +8,7 @@ use Rattle.rules.specs.Sending.{descriptor_at, is_active, go_rule}
 use Rattle.rules.specs.Registers.{pointer_ok}
 use Rattle.rules.specs.Writes.{descriptor_word_fixed, starts, stops}
 use Rattle.rules.specs.Replies.{refusal_number}
-use Rattle.laws.specs.Types.{BlockAddress, SendPart, ReceivePart, Number, SendStore, ReceiveStore, Writing}
+use Rattle.laws.specs.Types.{BlockAddress, SendPart, ReceivePart, Number, SendStore, ReceiveStore, Refusal, Writing}
 use Rattle.laws.specs.Sound.{Ring, Block, Sized}
 use Rattle.laws.specs.Verdicts.{Refuses}
 
@@ -70,10 +70,10 @@ OfReceiveStore receive notices (ReceiveStore.FirstBlock l b) = (l.0 < lists) × 
 OfReceiveStore receive notices (ReceiveStore.ListToken l) = l.0 < lists
 
 -- Any of them; a refusal says what it says of the machine.
-abbrev pub OfWrite : Machine → ℕ → Writing → Type 0
-OfWrite m v (Writing.No why) = Refuses m (refusal_number why)
-OfWrite m v Writing.Reset = Sized (length m.send) (length m.receive) (length m.bytes) (length m.notices)
-OfWrite m v (Writing.Sets n) = OfNumber v n
-OfWrite m v (Writing.Gives b) = Given m b
-OfWrite m v (Writing.StoresSend w) = (length m.send ≡ send_size) × OfSendStore m.send (length m.bytes) v w
-OfWrite m v (Writing.StoresReceive w) = (length m.receive ≡ receive_size) × OfReceiveStore m.receive m.notices w
+abbrev pub OfWrite : Machine → ℕ → Result Writing Refusal → Type 0
+OfWrite m v (Err why) = Refuses m (refusal_number why)
+OfWrite m v (Ok Writing.Reset) = Sized (length m.send) (length m.receive) (length m.bytes) (length m.notices)
+OfWrite m v (Ok (Writing.Sets n)) = OfNumber v n
+OfWrite m v (Ok (Writing.Gives b)) = Given m b
+OfWrite m v (Ok (Writing.StoresSend w)) = (length m.send ≡ send_size) × OfSendStore m.send (length m.bytes) v w
+OfWrite m v (Ok (Writing.StoresReceive w)) = (length m.receive ≡ receive_size) × OfReceiveStore m.receive m.notices w

@@ -1,18 +1,16 @@
 -- Laws of texts written one after the other, and of the parts of a line. Assumes nothing.
-use Prim.Native.Nat.{ℕ, zero, suc, ◌+◌, ◌/◌, ◌%◌, ◌<◌, ◌≤◌, max}
-use mathlib.Core.Path.{◌≡◌, refl, sym, ap, ap₂, ◌∙◌}
+use Prim.Native.Nat.{ℕ, ◌/◌, ◌%◌, ◌<◌, ◌≤◌}
+use mathlib.Core.Path.{◌≡◌, sym, ap, ap₂, ◌∙◌}
 use mathlib.Core.List.{List, [], ◌∷◌, ◌++◌, append_assoc}
 use native.Mathlib.Decide.{dec_lt}
-use native.Mathlib.Nat.{div-one, le_trans, le-max_left, le-max_right}
+use native.Mathlib.Nat.{div-one}
 use native.Mathlib.Omega.{arith}
-use lib.ListN.{length, get_or, length-append}
+use lib.ListN.{get_or, length-append}
 use lib.Seq.{sets}
 use Rattle.ground.specs.Text.{ascii, digit, hexadecimal, decimal}
 use Rattle.ground.proofs.Lists.{sets_append}
 use Rattle.ground.proofs.Text.{decimal_one, decimal_more}
-use Rattle.rules.specs.declared.Refusal.{Refusal}
-use Rattle.rules.specs.declared.Reply.{Reply}
-use Rattle.rules.specs.Replies.{refusal_number, reply_number, reply_words}
+use Rattle.rules.specs.Replies.{reply_words}
 use Rattle.rules.specs.Station.{line_of}
 use Rattle.lines.specs.Lines.{Written}
 
@@ -50,76 +48,45 @@ decimal_three n h =
     ∙ ap (λ (t : List ℕ). t ++ (digit (n % 10) ∷ [])) (decimal_more 1 (n / 10) (omega arith))
     ∙ ap (λ (t : List ℕ). t ++ (digit (n / 10 % 10) ∷ []) ++ (digit (n % 10) ∷ [])) (decimal_last (n / 10 / 10) ∙ ap (λ (k : ℕ). digit (k % 10) ∷ []) e)
 
-module _ {d x : List ℕ} {at : ℕ} (n end : ℕ) where
-  -- A number below 10, and the byte that ends it.
-  pub put_one : {a : ℕ} → n < 10 → a ≡ digit (n % 10) → x ≡ sets d at (a ∷ end ∷ [])
-      → Written (decimal 3 n ++ (end ∷ [])) at d x (at + 2) × (at + 2 ≤ at + 4)
-  put_one {a} l ea e =
+-- The digits, and the byte that ends them.
+module _ {d x : List ℕ} {at r : ℕ} (n end : ℕ) where
+  -- Of a number below 10.
+  pub put_one : {a : ℕ} → n < 10 → a ≡ digit (n % 10) → Written (a ∷ end ∷ []) at d x r → Written (decimal 3 n ++ (end ∷ [])) at d x r
+  put_one {a} l ea w =
       let k : n % 10 ≡ n = omega arith in
       let f : a ≡ digit n = ea ∙ ap digit k in
-      (rw (decimal_one 2 n l, ← f) (record { buffer = e; ends = refl }), omega arith)
+      rw (decimal_one 2 n l, ← f) w
 
-  -- A number below 100.
-  pub put_two : {a b : ℕ} → 10 ≤ n → n < 100 → a ≡ digit (n / 10 % 10) → b ≡ digit (n % 10) → x ≡ sets d at (a ∷ b ∷ end ∷ [])
-      → Written (decimal 3 n ++ (end ∷ [])) at d x (at + 3) × (at + 3 ≤ at + 4)
-  put_two h l ea eb e = (rw (decimal_two n h l, ← ea, ← eb) (record { buffer = e; ends = refl }), omega arith)
+  -- Of one below 100.
+  pub put_two : {a b : ℕ} → 10 ≤ n → n < 100 → a ≡ digit (n / 10 % 10) → b ≡ digit (n % 10) → Written (a ∷ b ∷ end ∷ []) at d x r
+      → Written (decimal 3 n ++ (end ∷ [])) at d x r
+  put_two h l ea eb w = rw (decimal_two n h l, ← ea, ← eb) w
 
-  -- Any other.
+  -- Of any other.
   pub put_three : {a b c : ℕ} → 100 ≤ n → a ≡ digit (n / 100 % 10) → b ≡ digit (n / 10 % 10) → c ≡ digit (n % 10)
-      → x ≡ sets d at (a ∷ b ∷ c ∷ end ∷ []) → Written (decimal 3 n ++ (end ∷ [])) at d x (at + 4) × (at + 4 ≤ at + 4)
-  put_three h ea eb ec e = (rw (decimal_three n h, ← ea, ← eb, ← ec) (record { buffer = e; ends = refl }), omega arith)
+      → Written (a ∷ b ∷ c ∷ end ∷ []) at d x r → Written (decimal 3 n ++ (end ∷ [])) at d x r
+  put_three h ea eb ec w = rw (decimal_three n h, ← ea, ← eb, ← ec) w
 
 -- Eight hexadecimal digits between two spaces.
-pub put_eight : {d x : List ℕ} {at a b c e f g h i : ℕ} (n : ℕ)
+pub put_eight : {d x : List ℕ} {at r a b c e f g h i : ℕ} (n : ℕ)
     → a ≡ digit (n / 0x10000000 % 16) → b ≡ digit (n / 0x1000000 % 16) → c ≡ digit (n / 0x100000 % 16) → e ≡ digit (n / 0x10000 % 16)
     → f ≡ digit (n / 0x1000 % 16) → g ≡ digit (n / 0x100 % 16) → h ≡ digit (n / 0x10 % 16) → i ≡ digit (n % 16)
-    → x ≡ sets d at (32 ∷ a ∷ b ∷ c ∷ e ∷ f ∷ g ∷ h ∷ i ∷ 32 ∷ [])
-    → Written (ascii " " ++ hexadecimal 8 n ++ ascii " ") at d x (at + 10) × (at + 10 ≡ at + 10)
+    → Written (32 ∷ a ∷ b ∷ c ∷ e ∷ f ∷ g ∷ h ∷ i ∷ 32 ∷ []) at d x r
+    → Written (ascii " " ++ hexadecimal 8 n ++ ascii " ") at d x r
 unfolding ascii hexadecimal
-put_eight n ea eb ec ee ef eg eh ei es =
-    (rw (div-one n, ← ea, ← eb, ← ec, ← ee, ← ef, ← eg, ← eh, ← ei) (record { buffer = es; ends = refl }), refl)
-
--- ---- words
-
--- The longest word has eleven letters.
-longest : List (List ℕ) → ℕ
-longest [] = 0
-longest (x ∷ xs) = max (length x) (longest xs)
-
-each : (l : List (List ℕ)) (n : ℕ) → length (get_or l n []) ≤ longest l
-unfolding longest
-each [] n = omega arith
-each (x ∷ xs) zero = le-max_left (length x) (longest xs)
-each (x ∷ xs) (suc n) = le_trans (each xs n) (le-max_right (length x) (longest xs))
-
-pub length_word : (n : ℕ) → length (get_or reply_words n []) ≤ 11
-unfolding reply_words ascii longest
-length_word n = each reply_words n
-
--- The word that was written is the refusal's.
-pub of_refusal : {why told : Refusal} {d x : List ℕ} {at r : ℕ} → why ≡ told → Written (get_or reply_words (refusal_number told) []) at d x r
-    → Written (get_or reply_words (refusal_number why) []) at d x r
-of_refusal e w = rw e w
-
--- The reply's.
-pub of_reply : {reply told : Reply} {d x : List ℕ} {at r : ℕ} → reply ≡ told → Written (get_or reply_words (reply_number told) []) at d x r
-    → Written (get_or reply_words (reply_number reply) []) at d x r
-of_reply e w = rw e w
+put_eight n ea eb ec ee ef eg eh ei w = rw (div-one n, ← ea, ← eb, ← ec, ← ee, ← ef, ← eg, ← eh, ← ei) w
 
 -- ---- the line
 
 -- Its four parts.
-pub line : (kind reply value interrupts : ℕ) {d x y z u : List ℕ} {at i j k r : ℕ}
-    → Written (decimal 3 kind ++ (32 ∷ [])) at d x i × (i ≤ at + 4)
-    → Written (get_or reply_words reply []) i x y j
-    → Written (ascii " " ++ hexadecimal 8 value ++ ascii " ") j y z k × (k ≡ j + 10)
-    → Written (decimal 3 interrupts ++ (10 ∷ [])) k z u r × (r ≤ k + 4)
-    → Written (line_of kind reply value interrupts) at d u r × (r ≤ at + 29)
+pub line : (kind reply value interrupts : ℕ) {d x y z u : List ℕ} {at i j k r : ℕ} → Written (decimal 3 kind ++ (32 ∷ [])) at d x i
+    → Written (get_or reply_words reply []) i x y j → Written (ascii " " ++ hexadecimal 8 value ++ ascii " ") j y z k
+    → Written (decimal 3 interrupts ++ (10 ∷ [])) k z u r → Written (line_of kind reply value interrupts) at d u r
 unfolding line_of ascii
 line kind reply value interrupts a b c e =
     let h : List ℕ = hexadecimal 8 value in
     let i : List ℕ = decimal 3 interrupts in
     let k : List ℕ = decimal 3 kind ++ (32 ∷ []) ++ get_or reply_words reply [] in
-    let parts = then (then (then a.0 b) c.0) e.0 in
+    let parts = then (then (then a b) c) e in
     let same : k ++ ((32 ∷ []) ++ h ++ (32 ∷ [])) ++ (i ++ (10 ∷ [])) ≡ k ++ (32 ∷ []) ++ h ++ (32 ∷ []) ++ i ++ (10 ∷ []) = simp append_assoc in
-    (rw same at parts, omega (arith, length_word reply, b.ends))
+    rw same at parts

@@ -8,7 +8,6 @@ use borrow.Author.Tests.{ltb-true}
 use lib.ListN.{length, set, length-set}
 use lib.Seq.{sets, length-sets, get_or-set_other}
 use Rattle.ground.proofs.Lists.{get_or_sets_after}
-use Rattle.rules.specs.declared.BlockAddress.{BlockAddress}
 use Rattle.rules.specs.declared.ListIndex.{ListIndex}
 use Rattle.rules.specs.declared.Posting.{Posting}
 use Rattle.rules.specs.declared.Queue.{Queue}
@@ -27,6 +26,8 @@ use Rattle.laws.proofs.Postings.{can_post_lem}
 use Rattle.laws.proofs.Verdicts.{of_take}
 use Rattle.notices.specs.declared.Step.{Step}
 use Rattle.notices.specs.Steps.{Pushable, Does, Postable, PostableAll, Takeable, TakeableTo}
+use Rattle.std.specs.Prelude.{Ok, Option, Result}
+use Rattle.rules.specs.declared.Refusal.{Refusal}
 
 -- ---- from judging
 
@@ -50,23 +51,22 @@ module _ (s : Saved) (receive : List ℕ) (n : ℕ) (size : length receive ≡ r
       }
 
   -- What a call has to post, where every head is.
-  pub postable_all : (p : Posting) → ((l : ListIndex) → l.0 < lists → is_block_or_none n (head_of receive l) ≡ true) → Listed p → can_post_all s receive p ≡ true
+  pub postable_all : (p : Option Posting) → ((l : ListIndex) → l.0 < lists → is_block_or_none n (head_of receive l) ≡ true) → Listed p → can_post_all s receive p ≡ true
       → PostableAll s receive n p
   unfolding can_post_all
-  postable_all p heads listed h = record { on = λ l m e. let low : l.0 < lists = listed.low l m e in postable l low (heads l low) (rw e at h) }
+  postable_all p heads listed h = record { on = λ q e. let low : q.list.0 < lists = listed.low q e in postable q.list low (heads q.list low) (rw e at h) }
 
 -- A take that was judged to go.
-goes : (m : Machine) (k room : ℕ) {l : ListIndex} {b next : BlockAddress} → judge_take m k room ≡ Taking.Takes l b next
-    → Takeable m.saved m.receive (length m.notices) l b × (block_size ≤ room)
-goes m k room {l} {b} {next} h =
-    let t : ReadersBlock m room l b next = rw h at (of_take m k room) in
+goes : (m : Machine) (k room : ℕ) {x : Taking} → judge_take m k room ≡ Ok x → Takeable m.saved m.receive (length m.notices) x.list x.block × (block_size ≤ room)
+goes m k room {x} h =
+    let t : ReadersBlock m room x.list x.block x.next = rw h at (of_take m k room) in
     let push : Pushable m.saved.nbqr m.receive = record { size = t.sound.sized.receive; place = t.sound.nbqr.place; room = t.queue } in
     (record { low = t.low; inside = t.here.inside; push = push }, t.long)
 
 -- A take that was judged can be acted on.
-pub takeable : (m : Machine) (k room : ℕ) {t : Taking} → judge_take m k room ≡ t
+pub takeable : (m : Machine) (k room : ℕ) {t : Result Taking Refusal} → judge_take m k room ≡ t
     → TakeableTo t m.saved m.receive (length m.notices) room
-takeable m k room h = record { block = λ l b next e. (goes m k room (h ∙ e)).0; room = λ l b next e. (goes m k room (h ∙ e)).1 }
+takeable m k room h = record { block = λ x e. (goes m k room (h ∙ e)).0; room = λ x e. (goes m k room (h ∙ e)).1 }
 
 -- ---- which stores a posting does not mind
 

@@ -21,7 +21,6 @@ use Rattle.rules.specs.declared.Answer.{Answer}
 use Rattle.rules.specs.declared.Refusal.{Refusal}
 use Rattle.rules.specs.declared.Reply.{Reply}
 use Rattle.rules.specs.declared.Taking.{Taking}
-use Rattle.rules.specs.declared.Verdict.{Verdict}
 use Rattle.rules.specs.Memory.{block, block_first, head_word, token_word, place_word, nbqr_from}
 use Rattle.rules.specs.Saved.{with_nbqr}
 use Rattle.rules.specs.Queues.{oldest, removed}
@@ -34,6 +33,7 @@ use Rattle.laws.proofs.Sound.{set_block}
 use Rattle.sound.proofs.Passing.{gated_sound}
 use Rattle.notices.specs.declared.Step.{Step}
 use Rattle.notices.specs.Steps.{Pushable, Returns, Does, Posts, Enqueues, Postable, Takeable, TakeableTo, Takes, Acts}
+use Rattle.std.specs.Prelude.{Some, Option, None, Result, Ok, Err, ⊤}
 
 -- ---- blocks
 
@@ -107,23 +107,23 @@ module _ (l : ListIndex) (n : Notice) {s : Saved} {receive notices receive₂ no
         small = omega (arith, fill.small, d.small);
       }
 
-module _ (p : Posting) (s : Saved) (receive notices : List ℕ) where
+module _ (p : Option Posting) (s : Saved) (receive notices : List ℕ) where
   -- Nothing to post.
-  pub post_none : p ≡ Posting.Silent → Posts (post_all p) 6 s receive notices (record { saved = s; interrupts = 0 }) receive notices
+  pub post_none : p ≡ None → Posts (post_all p) 6 s receive notices (record { saved = s; interrupts = 0 }) receive notices
   unfolding post_all
   post_none e = record { whole = λ sum. rw (e, add-zero sum); small = omega arith }
 
   -- A notice to post.
-  pub post_one : (l : ListIndex) (n : Notice) (r : Step) (receive₂ notices₂ : List ℕ) → p ≡ Posting.On l n
-      → Posts (post l n) 6 s receive notices r receive₂ notices₂ → Posts (post_all p) 6 s receive notices r receive₂ notices₂
+  pub post_one : (q : Posting) (r : Step) (receive₂ notices₂ : List ℕ) → p ≡ Some q
+      → Posts (post q.list q.notice) 6 s receive notices r receive₂ notices₂ → Posts (post_all p) 6 s receive notices r receive₂ notices₂
   unfolding post_all
-  post_one l n r receive₂ notices₂ e h = record { whole = λ sum. rw e (h.whole sum); small = h.small }
+  post_one q r receive₂ notices₂ e h = record { whole = λ sum. rw e (h.whole sum); small = h.small }
 
 -- ---- the take
 
 -- What the judge of a take reads, once the gate said go.
-module _ (s : Saved) (send receive bytes notices : List ℕ) {v : Verdict} (told : Gated s send receive (length bytes) (length notices) v)
-    (go : v ≡ Verdict.Go) where
+module _ (s : Saved) (send receive bytes notices : List ℕ) {v : Result ⊤ Refusal} (told : Gated s send receive (length bytes) (length notices) v)
+    {x : ⊤} (go : v ≡ Ok x) where
   pub place_asks : length receive ≡ 2048
   place_asks = (gated_sound s send receive bytes notices told go).sized.receive
 
@@ -133,36 +133,36 @@ module _ (s : Saved) (send receive bytes notices : List ℕ) {v : Verdict} (told
       (set_block (length notices) place (rw e (sound.places l low)) filled).inside
 
 -- The place, the block's next, and the block on NBQR.
-pub taken : (l : ListIndex) (b next : BlockAddress) (s s₂ : Saved) (receive receive₂ notices : List ℕ) (place first : ℕ) → place ≡ place_word l
-    → first ≡ block_first b → Returns b s (set receive place next.0) s₂ receive₂
-    → Takes l b next s receive notices s₂ receive₂ (set notices (first + 3) 0)
+pub taken : (t : Taking) (s s₂ : Saved) (receive receive₂ notices : List ℕ) (place first : ℕ) → place ≡ place_word t.list
+    → first ≡ block_first t.block → Returns t.block s (set receive place t.next.0) s₂ receive₂
+    → Takes t s receive notices s₂ receive₂ (set notices (first + 3) 0)
 unfolding take_block
-taken l b next s s₂ receive receive₂ notices place first p f r = record { whole = λ sum. r.whole (set notices (first + 3) 0) sum ∙ rw (p, f) }
+taken t s s₂ receive receive₂ notices place first p f r = record { whole = λ sum. r.whole (set notices (first + 3) 0) sum ∙ rw (p, f) }
 
 -- What a verdict to take asks.
-module _ {t : Taking} {s : Saved} {receive : List ℕ} {n words : ℕ} (a : TakeableTo t s receive n words) (l : ListIndex) (b next : BlockAddress) where
-  pub take_asks : t ≡ Taking.Takes l b next → Takeable s receive n l b
-  take_asks e = a.block l b next e
+module _ {t : Result Taking Refusal} {s : Saved} {receive : List ℕ} {n words : ℕ} (a : TakeableTo t s receive n words) (x : Taking) where
+  pub take_asks : t ≡ Ok x → Takeable s receive n x.list x.block
+  take_asks e = a.block x e
 
-  pub block_asks : t ≡ Taking.Takes l b next → block_first b + 8 ≤ n
-  block_asks e = (a.block l b next e).inside
+  pub block_asks : t ≡ Ok x → block_first x.block + 8 ≤ n
+  block_asks e = (a.block x e).inside
 
-  pub room_asks : t ≡ Taking.Takes l b next → 8 ≤ words
-  room_asks e = a.room l b next e
+  pub room_asks : t ≡ Ok x → 8 ≤ words
+  room_asks e = a.room x e
 
-  pub value_asks : {first : ℕ} → t ≡ Taking.Takes l b next → first ≡ block_first b → first < n
-  value_asks e f = omega (arith, f, (a.block l b next e).inside)
+  pub value_asks : {first : ℕ} → t ≡ Ok x → first ≡ block_first x.block → first < n
+  value_asks e f = omega (arith, f, (a.block x e).inside)
 
 -- By what was judged.
-module _ (t : Taking) (s : Saved) (receive notices room : List ℕ) where
+module _ (t : Result Taking Refusal) (s : Saved) (receive notices room : List ℕ) where
   -- A refusal changes nothing.
-  pub acts_no : (why : Refusal) (r : Answer) → t ≡ Taking.No why → Refuses s why r → Acts t s receive notices room r receive notices room
+  pub acts_no : (why : Refusal) (r : Answer) → t ≡ Err why → Refuses s why r → Acts t s receive notices room r receive notices room
   unfolding act_take
   acts_no why r e told = record { whole = λ send bytes. rw e (told.whole send receive bytes notices room) }
 
   -- The words in the room, the value, and the block off its list.
-  pub acts_takes : (l : ListIndex) (b next : BlockAddress) (s₂ : Saved) (receive₂ notices₂ room₂ : List ℕ) (first : ℕ) → t ≡ Taking.Takes l b next
-      → first ≡ block_first b → room₂ ≡ over (words_of notices b) room → Takes l b next s receive notices s₂ receive₂ notices₂
+  pub acts_takes : (x : Taking) (s₂ : Saved) (receive₂ notices₂ room₂ : List ℕ) (first : ℕ) → t ≡ Ok x → first ≡ block_first x.block
+      → room₂ ≡ over (words_of notices x.block) room → Takes x s receive notices s₂ receive₂ notices₂
       → Acts t s receive notices room (record { reply = Reply.Done (get_or notices first 0); interrupts = 0; saved = s₂ }) receive₂ notices₂ room₂
   unfolding act_take
-  acts_takes l b next s₂ receive₂ notices₂ room₂ first is f e took = record { whole = λ send bytes. rw (is, f, e, ← took.whole 0) }
+  acts_takes x s₂ receive₂ notices₂ room₂ first is f e took = record { whole = λ send bytes. rw (is, f, e, ← took.whole 0) }

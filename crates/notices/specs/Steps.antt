@@ -1,6 +1,6 @@
 -- What the steps of postings and takes ask and give. What a step gives holds whatever the memories hold that it is not lent, and whatever
 -- was summed of the interrupts before it. Assumes nothing.
-use Rattle.std.specs.Prelude.{◌≡◌, true, List, ℕ, ◌+◌, ◌<◌, ◌≤◌, length}
+use Rattle.std.specs.Prelude.{Some, Ok, Option, Result, ◌≡◌, true, List, ℕ, ◌+◌, ◌<◌, ◌≤◌, length}
 use Rattle.rules.specs.declared.Queue.{Queue}
 use Rattle.rules.specs.declared.Saved.{Saved}
 use Rattle.rules.specs.declared.ListIndex.{ListIndex}
@@ -17,6 +17,7 @@ use Rattle.rules.specs.Replies.{answered}
 use Rattle.rules.specs.Calls.{act_take}
 use Rattle.notices.specs.declared.posting.Pushed.{Pushed}
 use Rattle.notices.specs.declared.Step.{Step}
+use Rattle.rules.specs.declared.Refusal.{Refusal}
 
 -- ---- queues
 
@@ -66,8 +67,8 @@ pub record Postable (s : Saved) (receive : List ℕ) (n : ℕ) (l : ListIndex) :
   pub room : enqueues (token_of receive l) ≡ true → s.nqr.length < queue_size
 
 -- What a call has to post, if anything, can be posted.
-pub record PostableAll (s : Saved) (receive : List ℕ) (n : ℕ) (p : Posting) : Type 0 where
-  pub on : (l : ListIndex) (m : Notice) → p ≡ Posting.On l m → Postable s receive n l
+pub record PostableAll (s : Saved) (receive : List ℕ) (n : ℕ) (p : Option Posting) : Type 0 where
+  pub on : (q : Posting) → p ≡ Some q → Postable s receive n q.list
 
 -- ---- the take
 
@@ -78,14 +79,14 @@ pub record Takeable (s : Saved) (receive : List ℕ) (n : ℕ) (l : ListIndex) (
   pub push : Pushable s.nbqr receive
 
 -- A take into a room of so many words can be acted on; a refusal asks nothing.
-pub record TakeableTo (t : Taking) (s : Saved) (receive : List ℕ) (n words : ℕ) : Type 0 where
-  pub block : (l : ListIndex) (b next : BlockAddress) → t ≡ Taking.Takes l b next → Takeable s receive n l b
-  pub room : (l : ListIndex) (b next : BlockAddress) → t ≡ Taking.Takes l b next → block_size ≤ words
+pub record TakeableTo (t : Result Taking Refusal) (s : Saved) (receive : List ℕ) (n words : ℕ) : Type 0 where
+  pub block : (x : Taking) → t ≡ Ok x → Takeable s receive n x.list x.block
+  pub room : (x : Taking) → t ≡ Ok x → block_size ≤ words
 
 -- A block was taken off its list.
-pub record Takes (l : ListIndex) (b next : BlockAddress) (s : Saved) (receive notices : List ℕ) (s₂ : Saved) (receive₂ notices₂ : List ℕ) : Type 0 where
-  pub whole : (sum : ℕ) → board s₂ receive₂ notices₂ sum ≡ take_block l b next (board s receive notices sum)
+pub record Takes (t : Taking) (s : Saved) (receive notices : List ℕ) (s₂ : Saved) (receive₂ notices₂ : List ℕ) : Type 0 where
+  pub whole : (sum : ℕ) → board s₂ receive₂ notices₂ sum ≡ take_block t.list t.block t.next (board s receive notices sum)
 
 -- A take was carried out or refused.
-pub record Acts (t : Taking) (s : Saved) (receive notices room : List ℕ) (r : Answer) (receive₂ notices₂ room₂ : List ℕ) : Type 0 where
+pub record Acts (t : Result Taking Refusal) (s : Saved) (receive notices room : List ℕ) (r : Answer) (receive₂ notices₂ room₂ : List ℕ) : Type 0 where
   pub whole : (send bytes : List ℕ) → answered r send receive₂ bytes notices₂ room₂ ≡ act_take (machine s send receive bytes notices) room t

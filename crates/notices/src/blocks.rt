@@ -32,7 +32,7 @@ pub(crate) fn fill_block(notices: &mut [u32], b: BlockAddress, n: Notice, next: 
 {
     let m = n.metadata;
     let row = [n.word0, n.word1, n.word2, next, m.a, m.b, m.c, m.d];
-    words::store(notices, block_first(b), &row);
+    words::copy(notices, block_first(b), &row);
 }
 
 // A block's eight words, to the start of a room.
@@ -41,17 +41,15 @@ pub(crate) fn copy_block(notices: &[u32], b: BlockAddress, room: &mut [u32])
     ensures { room.new ≡ over (words_of notices.now b) room.old }
 {
     let first = block_first(b);
-    let end = first + BLOCK_SIZE;
-    words::store(room, 0, &notices[first..end]);
+    words::copy(room, 0, &notices[first..first + BLOCK_SIZE]);
 }
 
 // A block on NBQR.
+#[tactic(auto, unfolding(rules::specs::Notices::push_nbqr))]
 pub fn push_nbqr(b: BlockAddress, s: Saved, receive: &mut [u32]) -> Saved
     requires { Pushable s.nbqr receive.old }
     ensures { Returns b s receive.old result receive.new }
 {
-    let nbqr = s.nbqr;
-    let mut saved = s;
-    saved.nbqr = nbqr.push(receive, NBQR_FROM, b.0);
-    saved
+    let nbqr = s.nbqr.push(receive, NBQR_FROM, b.0);
+    Saved { nbqr, ..s }
 }

@@ -1,15 +1,16 @@
 // The take: which block it takes, or why it is refused; and what it moves.
+// (Receive RAM's size is asked for, and no type's: `sound::lists` says why.)
 ghost use Rattle.std.specs.Prelude.{◌≡◌, ◌<◌, length};
 ghost use Rattle.rules.specs.Memory.{receive_size, lists};
 ghost use Rattle.rules.specs.Notices.{place_of};
 ghost use Rattle.rules.specs.Calls.{judge_take};
-ghost use Rattle.laws.specs.Lent.{before};
+ghost use Rattle.laws.specs.Lent.{seen};
 ghost use Rattle.notices.specs.Steps.{Takeable, TakeableTo, Takes, Acts};
 
 use crate::blocks;
 use replies::refuse;
 use rules::sizes::{BLOCK_SIZE, LISTS, QUEUE_SIZE};
-use rules::{Answer, BlockAddress, ListIndex, Refusal, Reply, Saved, Taking, Verdict};
+use rules::{Answer, BlockAddress, ListIndex, Refusal, Reply, Saved, Seen, Taking};
 use tables::{is_block, place_word};
 
 // A list's reader's place.
@@ -21,65 +22,56 @@ fn place_of(receive: &[u32], l: ListIndex) -> u32
 }
 
 // What a take of list l into a room of so many words does, by the table's rows in their order.
-pub fn judge_take(
-    s: Saved,
-    send: &[u32],
-    receive: &[u32],
-    bytes: &[u8],
-    notices: &[u32],
-    l: u32,
-    room: usize,
-) -> Taking
-    ensures { result ≡ judge_take (before s send.now receive.now bytes.now notices.now) l room }
+#[tactic(auto, using(sound::proofs::Passing::gated_go, ground::proofs::Choice::judging, crate::proofs::Steps::place_asks), unfolding(rules::specs::Calls::judge_take))]
+pub fn judge_take(m: &Seen<'_>, l: u32, room: usize) -> Result<Taking, Refusal>
+    ensures { result ≡ judge_take (seen m.now) l room }
 {
-    if let Verdict::No(why) = sound::gate(s, send, receive, bytes.len(), notices.len()) {
-        return Taking::No(why);
-    }
+    let s = m.saved;
+    let receive = m.receive;
+    let notices = m.notices;
+    sound::gate(s, m.send, receive, m.bytes.len(), notices.len())?;
     if LISTS <= l {
-        return Taking::No(Refusal::BadValue);
+        return Err(Refusal::BadValue);
     }
     if room < BLOCK_SIZE {
-        return Taking::No(Refusal::Short);
+        return Err(Refusal::Short);
     }
     let place = place_of(receive, ListIndex(l));
     if place == 0 {
-        return Taking::No(Refusal::Empty);
+        return Err(Refusal::Empty);
     }
     let next = blocks::next_of(notices, BlockAddress(place));
     if next == 0 {
-        return Taking::No(Refusal::Empty);
+        return Err(Refusal::Empty);
     }
     if !is_block(notices.len(), next) {
-        return Taking::No(Refusal::Unsound);
+        return Err(Refusal::Unsound);
     }
-    let nbqr = s.nbqr;
-    if QUEUE_SIZE <= nbqr.length {
-        return Taking::No(Refusal::Full);
+    if QUEUE_SIZE <= s.nbqr.length {
+        return Err(Refusal::Full);
     }
-    Taking::Takes(ListIndex(l), BlockAddress(place), BlockAddress(next))
+    Ok(Taking {
+        list: ListIndex(l),
+        block: BlockAddress(place),
+        next: BlockAddress(next),
+    })
 }
 
 // The reader's place moves on to the next, the block's next goes to 0, and the block back to NBQR.
 #[tactic(auto, using(crate::proofs::Steps::taken))]
-fn take_block(
-    l: ListIndex,
-    b: BlockAddress,
-    next: BlockAddress,
-    s: Saved,
-    receive: &mut [u32],
-    notices: &mut [u32],
-) -> Saved
-    requires { Takeable s receive.old (length notices.old) l b }
-    ensures { Takes l b next s receive.old notices.old result receive.new notices.new }
+fn take_block(t: Taking, s: Saved, receive: &mut [u32], notices: &mut [u32]) -> Saved
+    requires { Takeable s receive.old (length notices.old) t.list t.block }
+    ensures { Takes t s receive.old notices.old result receive.new notices.new }
 {
-    receive[place_word(l)] = next.0;
-    notices[blocks::block_first(b) + 3] = 0;
-    blocks::push_nbqr(b, s, receive)
+    receive[place_word(t.list)] = t.next.0;
+    notices[blocks::block_first(t.block) + 3] = 0;
+    blocks::push_nbqr(t.block, s, receive)
 }
 
 // By what was judged: a block's words come to the room, and its word 0 is the value.
+#[tactic(auto, using(crate::proofs::Steps::block_asks, crate::proofs::Steps::room_asks, crate::proofs::Steps::value_asks, crate::proofs::Steps::take_asks, crate::proofs::Steps::acts_no, crate::proofs::Steps::acts_takes))]
 pub fn act_take(
-    t: Taking,
+    t: Result<Taking, Refusal>,
     s: Saved,
     receive: &mut [u32],
     notices: &mut [u32],
@@ -90,15 +82,14 @@ pub fn act_take(
         receive.new notices.new room.new }
 {
     match t {
-        Taking::No(why) => refuse(s, why),
-        Taking::Takes(l, b, next) => {
-            blocks::copy_block(notices, b, room);
-            let value = notices[blocks::block_first(b)];
-            let saved = take_block(l, b, next, s, receive, notices);
+        Err(why) => refuse(s, why),
+        Ok(t) => {
+            blocks::copy_block(notices, t.block, room);
+            let value = notices[blocks::block_first(t.block)];
             Answer {
                 reply: Reply::Done(value),
                 interrupts: 0,
-                saved,
+                saved: take_block(t, s, receive, notices),
             }
         }
     }

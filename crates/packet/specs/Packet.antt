@@ -25,11 +25,10 @@ pub record Landing (packet : List ℕ) (at : ℕ) (bytes : List ℕ) : Type 0 wh
 
 -- ---- forming
 
--- A room for any packet, and the n elements of a slice from a place on, which make so many bytes of payload.
-pub record Forming (room source : List ℕ) (at n payload : ℕ) : Type 0 where
+-- A room for any packet, and the bytes of a payload.
+pub record Forming (room payload : List ℕ) : Type 0 where
   pub roomy : packet_most ≤ length room
-  pub inside : at + n ≤ length source
-  pub few : payload ≤ payload_most
+  pub few : length payload ≤ payload_most
 
 -- The room after bytes were stored from a place on, and where they end.
 pub record Stored (bytes : List ℕ) (at : ℕ) (before after : List ℕ) (next : ℕ) : Type 0 where

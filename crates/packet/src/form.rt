@@ -1,10 +1,11 @@
 // A whole packet formed in a lent room.
-ghost use Rattle.std.specs.Prelude.{◌+◌, ◌*◌, ◌≤◌, length};
-ghost use Rattle.ground.specs.Bytes.{to_bytes};
+// (Places stand beside the room: a lent room can't grow.)
+ghost use Rattle.std.specs.Prelude.{◌+◌, ◌-◌, ◌≤◌, length};
 ghost use Rattle.ground.specs.Lists.{part};
 ghost use Rattle.rules.specs.Packet.{plain_start, flagged_start, metadata_bytes, front_bytes, body_check_bytes, form};
 ghost use Rattle.packet.specs.Packet.{Forming, Formed, Stored};
 
+use crate::payload::Payload;
 use rules::sizes::{FLAGGED_START, PLAIN_START};
 use rules::{Header, Metadata};
 
@@ -14,8 +15,7 @@ fn put_metadata(room: &mut [u8], header: Header, metadata: Metadata) -> usize
     ensures stored { Stored (metadata_bytes header metadata) plain_start room.old room.new result }
     ensures upper_bound { result ≤ flagged_start }
 {
-    let flagged = header.control1 / 0x800_0000 % 2 == 1;
-    if flagged {
+    if crate::meta_flag(header.control1) {
         let row = [metadata.a, metadata.b, metadata.c, metadata.d];
         words::copy_words(room, PLAIN_START, &row);
         FLAGGED_START
@@ -39,54 +39,30 @@ fn put_front(room: &mut [u8], header: Header, metadata: Metadata) -> usize
     words::copy_words(room, 0, &row);
     let from = put_metadata(room, header, metadata);
     let check = crate::header_check(room, from);
-    words::put(room, 16, check as u32 * 0x1_0000);
+    words::put(room, 16, crate::check_word(check));
     from
 }
 
 // "If not empty, body check 16 and zero 16 follow."
-fn put_body_check(room: &mut [u8], from: usize, n: usize) -> usize
-    requires { from + n + 4 ≤ length room.old }
-    ensures { Stored (body_check_bytes (part from n room.old)) (from + n) room.old room.new result }
+fn put_body_check(room: &mut [u8], from: usize, end: usize) -> usize
+    requires ordered { from ≤ end }
+    requires fits { end + 4 ≤ length room.old }
+    ensures { Stored (body_check_bytes (part from (end - from) room.old)) end room.old room.new result }
 {
-    let end = from + n;
-    if n == 0 {
+    if end == from {
         return end;
     }
     let check = checksum::of(&room[from..end]);
-    words::put(room, end, check as u32 * 0x1_0000);
+    words::put(room, end, crate::check_word(check));
     end + 4
 }
 
-// A packet whose payload is n bytes of data memory; its length.
-pub fn from_bytes(
-    room: &mut [u8],
-    header: Header,
-    metadata: Metadata,
-    bytes: &[u8],
-    at: usize,
-    n: usize,
-) -> usize
-    requires { Forming room.old bytes.now at n n }
-    ensures { Formed (form header metadata (part at n bytes.now)) room.old room.new result }
+// A packet of that payload; its length.
+pub fn packet<P: Payload>(room: &mut [u8], header: Header, metadata: Metadata, payload: P) -> usize
+    requires { Forming room.old (P.bytes payload) }
+    ensures { Formed (form header metadata (P.bytes payload)) room.old room.new result }
 {
     let from = put_front(room, header, metadata);
-    words::copy(room, from, &bytes[at..at + n]);
-    put_body_check(room, from, n)
-}
-
-// A packet whose payload is n words of Send RAM; its length.
-pub fn from_words(
-    room: &mut [u8],
-    header: Header,
-    metadata: Metadata,
-    send: &[u32],
-    at: usize,
-    n: usize,
-) -> usize
-    requires { Forming room.old send.now at n (n * 4) }
-    ensures { Formed (form header metadata (to_bytes (part at n send.now))) room.old room.new result }
-{
-    let from = put_front(room, header, metadata);
-    words::copy_words(room, from, &send[at..at + n]);
-    put_body_check(room, from, n * 4)
+    let end = payload.put(room, from);
+    put_body_check(room, from, end)
 }

@@ -1,4 +1,5 @@
-// What is read of a slice that may be a packet.
+// What is read of a slice that may be a packet. Most take a plain slice and ask for Sized: callers have one, docs/PROMISES.md names what they
+// call, and a type that knows the length to be right would ask more of them.
 ghost use Rattle.std.specs.Prelude.{◌≡◌, ◌≤◌, length};
 ghost use Rattle.rules.specs.Packet.{plain_start, flagged_start, header_of, flagged, payload_from, payload_of, metadata_in, metadata_of, packet_of};
 ghost use Rattle.rules.specs.Packet.{is_packet, header_checks, fields_ok, body_checks};
@@ -8,11 +9,11 @@ use rules::sizes::{FLAGGED_START, PACKET_MOST, PLAIN_START};
 use rules::{Header, Metadata, Packet};
 
 // The meta flag, in word 3.
-fn meta_flag(packet: &[u8]) -> bool
+fn flagged(packet: &[u8]) -> bool
     requires { plain_start ≤ length packet.now }
     ensures { result ≡ flagged packet.now }
 {
-    words::get(packet, 12) / 0x800_0000 % 2 == 1
+    crate::meta_flag(words::get(packet, 12))
 }
 
 // "Length: a multiple of 4; without the flag 20, or 28 to 152; with it 36, or 44 to 168. Otherwise no-packet." Of any slice.
@@ -23,18 +24,21 @@ pub fn is_packet(packet: &[u8]) -> bool
     if n < PLAIN_START {
         return false;
     }
-    let flag = meta_flag(packet);
-    (n % 4 == 0)
-        & ((!flag & ((n == PLAIN_START) | ((28 <= n) & (n <= 152))))
-            | (flag & ((n == FLAGGED_START) | ((44 <= n) & (n <= PACKET_MOST)))))
+    let right = if flagged(packet) {
+        matches!(n, FLAGGED_START | 44..=PACKET_MOST)
+    } else {
+        matches!(n, PLAIN_START | 28..=152)
+    };
+    right && n % 4 == 0
 }
 
 // "The payload begins at byte 20, or at byte 36 with metadata".
+#[tactic(auto, unfolding(rules::specs::Packet::payload_from, ground::specs::Choice::pick))]
 fn payload_from(packet: &[u8]) -> usize
     requires { Sized packet.now }
     ensures { result ≡ payload_from packet.now }
 {
-    if meta_flag(packet) {
+    if flagged(packet) {
         FLAGGED_START
     } else {
         PLAIN_START
@@ -49,10 +53,7 @@ pub fn payload(packet: &[u8]) -> &[u8]
     let from = payload_from(packet);
     let end = packet.len() - 4;
     // A packet without payload has no body check either.
-    if end < from {
-        return &packet[from..from];
-    }
-    &packet[from..end]
+    &packet[from..end.max(from)]
 }
 
 // Words 0 to 3.
@@ -82,30 +83,27 @@ fn metadata_words(packet: &[u8]) -> Metadata
 }
 
 // "With the flag, four metadata words"; zeros without.
+#[tactic(auto, using(crate::proofs::Reading::room_for_metadata), unfolding(rules::specs::Packet::metadata_of, ground::specs::Choice::pick))]
 fn metadata(packet: &[u8]) -> Metadata
     requires { Sized packet.now }
     ensures { result ≡ metadata_of packet.now }
 {
-    if meta_flag(packet) {
+    if flagged(packet) {
         metadata_words(packet)
     } else {
-        Metadata {
-            a: 0,
-            b: 0,
-            c: 0,
-            d: 0,
-        }
+        Metadata::default()
     }
 }
 
 // What is read of a packet besides its payload's bytes.
+#[tactic(auto, using(crate::proofs::Reading::length_payload, crate::proofs::Reading::low_half), unfolding(rules::specs::Packet::packet_of))]
 pub fn fields(packet: &[u8]) -> Packet
     requires { Sized packet.now }
     ensures { result ≡ packet_of packet.now }
 {
     Packet {
         header: header(packet),
-        zerohalf: words::get(packet, 16) % 0x1_0000,
+        zerohalf: words::get(packet, 16) & 0xffff,
         metadata: metadata(packet),
         length: packet.len() as u32,
         payloadlength: payload(packet).len() as u32,
@@ -113,39 +111,43 @@ pub fn fields(packet: &[u8]) -> Packet
 }
 
 // "header check".
+#[tactic(auto, unfolding(rules::specs::Packet::header_checks))]
 pub fn header_checks(packet: &[u8]) -> bool
     requires { Sized packet.now }
     ensures { result ≡ header_checks packet.now }
 {
     let check = crate::header_check(packet, payload_from(packet));
-    words::get(packet, 16) / 0x1_0000 % 0x1_0000 == check as u32
+    words::get(packet, 16) >> 16 == u32::from(check)
 }
 
 // "zero and reserved fields, meta_len as meta_cnt, ack is 20 bytes (H)".
+#[tactic(auto, unfolding(rules::specs::Packet::fields_ok))]
 pub fn fields_ok(p: Packet) -> bool
     ensures { result ≡ fields_ok p }
 {
     let h = p.header;
-    let zero_low = h.address1 % 16;
-    let ack_pkt = h.control0 / 0x2000_0000 % 2 == 1;
-    let reserved = h.control0 / 0x1000_0000 % 2;
-    let zero_top = h.control1 / 0x1000_0000 % 16;
-    let flagged = h.control1 / 0x800_0000 % 2 == 1;
-    let meta_len = h.control1 / 0x100_0000 % 8;
-    (zero_low == 0)
-        & (reserved == 0)
-        & (zero_top == 0)
-        & (p.zerohalf == 0)
-        & ((meta_len <= 4) & (flagged | (meta_len == 0)))
-        & (!ack_pkt | (p.length == PLAIN_START as u32))
+    let zero_low = h.address1 & 0xf;
+    let ack_pkt = (h.control0 >> 29) & 1 == 1;
+    let reserved = (h.control0 >> 28) & 1;
+    let zero_top = h.control1 >> 28;
+    let flagged = crate::meta_flag(h.control1);
+    let meta_len = (h.control1 >> 24) & 7;
+    zero_low == 0
+        && reserved == 0
+        && zero_top == 0
+        && p.zerohalf == 0
+        && meta_len <= 4
+        && (flagged || meta_len == 0)
+        && (!ack_pkt || p.length == PLAIN_START as u32)
 }
 
 // "body check or its padding": one comparison of the last word; an empty payload has none.
+#[tactic(auto, unfolding(rules::specs::Packet::body_checks))]
 pub fn body_checks(packet: &[u8]) -> bool
     requires { Sized packet.now }
     ensures { result ≡ body_checks packet.now }
 {
     let last = words::get(packet, packet.len() - 4);
     let check = checksum::of(payload(packet));
-    (packet.len() == payload_from(packet)) | (last == check as u32 * 0x1_0000)
+    packet.len() == payload_from(packet) || last == crate::check_word(check)
 }

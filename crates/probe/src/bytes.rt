@@ -1,24 +1,20 @@
 // Words and bytes read and written. Words are little-endian there; bytes are followed by zeros to a multiple of 4.
 ghost use Rattle.std.specs.Prelude.{◌*◌, ◌≤◌, length};
 
-use std::io::{Read, Write};
+use std::io::{self, Read, Write};
 
-// The word of the same bytes from last to first.
-fn turned(w: u32) -> u32 {
-    w % 0x100 * 0x100_0000
-        + w / 0x100 % 0x100 * 0x1_0000
-        + w / 0x1_0000 % 0x100 * 0x100
-        + w / 0x100_0000
-}
+// So many words go by way of a page.
+pub(crate) const PAGE_WORDS: usize = 4096;
+
+// Its bytes.
+pub(crate) type Page = [u8; 4 * PAGE_WORDS];
 
 // The words of a page.
 fn load(words: &mut [u32], page: &[u8])
     requires { length words.old * 4 ≤ length page.now }
 {
-    let mut i = 0;
-    while i < words.len() {
-        words[i] = turned(words::get(page, i * 4));
-        i += 1;
+    for (i, word) in words.iter_mut().enumerate() {
+        *word = words::get(page, i * 4).swap_bytes();
     }
 }
 
@@ -26,31 +22,33 @@ fn load(words: &mut [u32], page: &[u8])
 fn store(page: &mut [u8], words: &[u32])
     requires { length words.now * 4 ≤ length page.old }
 {
-    let mut i = 0;
-    while i < words.len() {
-        words::put(page, i * 4, turned(words[i]));
-        i += 1;
+    for (i, &word) in words.iter().enumerate() {
+        words::put(page, i * 4, word.swap_bytes());
     }
 }
 
-// Reads as many words as there is room for, by way of a page; false where the input ends before, or the page is smaller.
-pub(crate) fn read_words(from: &mut impl Read, words: &mut [u32], page: &mut [u8]) -> bool {
-    if words.len() > page.len() / 4 {
-        return false;
+// Reads as many words as there is room for.
+pub(crate) fn read_words(
+    from: &mut impl Read,
+    words: &mut [u32],
+    page: &mut Page,
+) -> io::Result<()> {
+    for part in words.chunks_mut(PAGE_WORDS) {
+        let bytes = &mut page[..part.len() * 4];
+        from.read_exact(bytes)?;
+        load(part, bytes);
     }
-    let n = words.len() * 4;
-    let whole = from.read_exact(&mut page[..n]).is_ok();
-    load(words, page);
-    whole
+    Ok(())
 }
 
-// Writes words, by way of a page; false where the output takes no more, or the page is smaller.
-pub(crate) fn write_words(to: &mut impl Write, words: &[u32], page: &mut [u8]) -> bool {
-    if words.len() > page.len() / 4 {
-        return false;
+// Writes words.
+pub(crate) fn write_words(to: &mut impl Write, words: &[u32], page: &mut Page) -> io::Result<()> {
+    for part in words.chunks(PAGE_WORDS) {
+        let bytes = &mut page[..part.len() * 4];
+        store(bytes, part);
+        to.write_all(bytes)?;
     }
-    store(page, words);
-    to.write_all(&page[..words.len() * 4]).is_ok()
+    Ok(())
 }
 
 // So many zeros follow n bytes.
@@ -60,16 +58,18 @@ fn padding(n: usize) -> usize
     (4 - n % 4) % 4
 }
 
-// Reads as many bytes as there is room for, and the zeros behind them; false where the input ends before.
-pub(crate) fn read_bytes(from: &mut impl Read, bytes: &mut [u8]) -> bool {
+// Reads as many bytes as there is room for, and the zeros behind them.
+pub(crate) fn read_bytes(from: &mut impl Read, bytes: &mut [u8]) -> io::Result<()> {
     let mut zeros = [0u8; 3];
     let n = padding(bytes.len());
-    from.read_exact(bytes).is_ok() && from.read_exact(&mut zeros[..n]).is_ok()
+    from.read_exact(bytes)?;
+    from.read_exact(&mut zeros[..n])
 }
 
-// Writes bytes, and the zeros behind them; false where the output takes no more.
-pub(crate) fn write_bytes(to: &mut impl Write, bytes: &[u8]) -> bool {
+// Writes bytes, and the zeros behind them.
+pub(crate) fn write_bytes(to: &mut impl Write, bytes: &[u8]) -> io::Result<()> {
     let zeros = [0u8; 3];
     let n = padding(bytes.len());
-    to.write_all(bytes).is_ok() && to.write_all(&zeros[..n]).is_ok()
+    to.write_all(bytes)?;
+    to.write_all(&zeros[..n])
 }

@@ -1,5 +1,5 @@
 -- What the functions of the table of steps ask of each other, and how the last of them decides. Assumes nothing.
-use Rattle.std.proofs.Common.{◌≡◌, ℕ, ◌+◌, ◌<◌, true, false, leb, List, length, refl, arith, ltb-true, lt-ltb, eq-eqb}
+use Rattle.std.proofs.Common.{◌≡◌, ℕ, ◌+◌, ◌≤◌, true, false, leb, List, refl, lt-ltb, eq-eqb}
 use Rattle.ground.specs.Choice.{need}
 use Rattle.ground.proofs.Choice.{go_on}
 use Rattle.ground.proofs.Tests.{not_yes}
@@ -9,42 +9,18 @@ use Rattle.rules.specs.declared.Receipt.{Receipt}
 use Rattle.rules.specs.declared.Saved.{Saved}
 use Rattle.rules.specs.declared.Slot.{Slot}
 use Rattle.rules.specs.declared.SlotIndex.{SlotIndex}
-use Rattle.rules.specs.Words.{dst_node, dst_slot, is_ack_pkt, incarnation, offset}
-use Rattle.rules.specs.Memory.{receive_size, slots_most, slot}
-use Rattle.rules.specs.Saved.{own_incarnation, own_node}
-use Rattle.rules.specs.Packet.{header_checks, fields_ok, body_checks}
+use Rattle.rules.specs.Words.{dst_slot, is_ack_pkt, incarnation, offset}
+use Rattle.rules.specs.Memory.{slot}
+use Rattle.rules.specs.Saved.{own_incarnation}
+use Rattle.rules.specs.Packet.{packet_most, body_checks}
 use Rattle.rules.specs.Slots.{slot_at, slot_ok, within24}
 use Rattle.rules.specs.Receipt.{new_bytes_to_go, receipt_of}
-use Rattle.laws.proofs.Receipts.{usable}
-use Rattle.receiver.specs.Judging.{Judgeable, Addressed, Counting, Decides}
+use Rattle.receiver.specs.Judging.{Addressed, Decides}
 use Rattle.receiver.proofs.Receipts.{payload_few}
 
--- The steps before the slot's, from what the code tested.
-pub addressed : (s : Saved) (receive packet : List ℕ) (p : Packet) → Judgeable s receive packet p
-    → header_checks packet ≡ true → fields_ok p ≡ true → dst_node p.header.address0 ≡ own_node s.pcsr0
-    → dst_slot p.header.address1 < s.slots → Addressed s receive packet p
-addressed s receive packet p j header zeros node slot =
-    record {
-      judgeable = j;
-      payload = payload_few packet p j.fields j.sized;
-      header = header;
-      zeros = zeros;
-      node = eq-eqb _ _ node;
-      slot = lt-ltb _ _ slot;
-    }
-
--- The packet's slot is one of the table.
-pub slot_asks : {s : Saved} {receive packet : List ℕ} {p : Packet} → Addressed s receive packet p
-    → (dst_slot p.header.address1 < slots_most) × (length receive ≡ receive_size)
-slot_asks {s = s} {p = p} a =
-    let low : dst_slot p.header.address1 < s.slots = ltb-true _ _ a.slot in
-    (omega (arith, a.judgeable.slots), a.judgeable.size)
-
--- A packet with data for a valid slot.
-pub data_asks : {s : Saved} {receive packet : List ℕ} {p : Packet} (v : Slot) (data_length : ℕ) → Addressed s receive packet p
-    → slot_ok v data_length ≡ true → Counting v packet p
-data_asks v data_length a ok =
-    record { sized = a.judgeable.sized; countable = record { old = (usable v data_length ok).bytestogo; payload = a.payload } }
+-- The payload is a part of the packet.
+pub payload_asks : {s : Saved} {receive packet : List ℕ} {p : Packet} → Addressed s receive packet p → p.payloadlength ≤ packet_most
+payload_asks {packet = packet} {p = p} a = payload_few packet p a.judgeable.fields a.judgeable.sized
 
 -- The steps before those of data, from what the code tested.
 pub decided : (s : Saved) (receive packet : List ℕ) (data_length : ℕ) (p : Packet) (v : Slot) {r : Receipt} → Addressed s receive packet p
@@ -53,7 +29,7 @@ pub decided : (s : Saved) (receive packet : List ℕ) (data_length : ℕ) (p : P
     → Decides (slot (dst_slot p.header.address1)) v packet p r → r ≡ receipt_of s receive data_length packet
 decided s receive packet data_length p v a words valid same plain d =
     d.decides s receive data_length
-    (record { addressed = a; slot = refl; words = words; valid = valid; incarnation = eq-eqb _ _ same; plain = plain })
+    (record { addressed = a; slot = refl; words = words; valid = valid; incarnation = same; plain = plain })
 
 -- Data's own steps decide, once all before them passed.
 pub data_steps : (i : SlotIndex) (v : Slot) (packet : List ℕ) (p : Packet) {r : Receipt}
@@ -71,9 +47,9 @@ data_steps i v packet p e =
           rw (← a.judgeable.fields, ← past.slot, ← past.words)
           (go_on _ a.header
           (go_on _ a.zeros
-          (go_on _ a.node
-          (go_on _ a.slot
+          (go_on _ (eq-eqb _ _ a.node)
+          (go_on _ (lt-ltb _ _ a.slot)
           (go_on _ past.valid
-          (go_on _ past.incarnation
+          (go_on _ (eq-eqb _ _ past.incarnation)
           (go_on _ (not_yes past.plain) e)))))));
     }

@@ -20,6 +20,8 @@ use Rattle.packet.proofs.Reading.{sized}
 use Rattle.notices.proofs.Facts.{pushable, postable_all}
 use Rattle.receiver.specs.Acting.{Known, Landable, Boardable, Receivable}
 use Rattle.receiver.specs.Judging.{Judgeable, Answerable}
+use Rattle.std.specs.Prelude.{Result, Ok}
+use Rattle.rules.specs.declared.Refusal.{Refusal}
 
 -- ---- a payload is a part of its packet
 
@@ -33,13 +35,13 @@ payload_few packet p fields s = rw fields (omega (arith, s.short))
 
 -- ---- what is asked of a receipt
 
-module _ (s : Saved) (receive : List ℕ) (n : ℕ) (p : Packet) (r : Receipt) (t : OfReceipt s receive n p r) where
+module _ (s : Saved) (receive : List ℕ) (n : ℕ) (x : Receiving) (t : OfReceipt s receive n x.packet x.receipt) where
   -- What it says, once it is known what it is.
-  told : (x : Receipt) → r ≡ x → OfReceipt s receive n p x
-  told x e = subst (OfReceipt s receive n p) e t
+  told : (r : Receipt) → x.receipt ≡ r → OfReceipt s receive n x.packet r
+  told r e = subst (OfReceipt s receive n x.packet) e t
 
   -- What acting knows of it.
-  known : s.slots ≤ slots_most → p.payloadlength ≤ packet_most → Known p r
+  known : s.slots ≤ slots_most → x.packet.payloadlength ≤ packet_most → Known x
   known slots payload =
       record {
         acks = λ i v e. omega (arith, slots, (told _ e).low);
@@ -49,9 +51,9 @@ module _ (s : Saved) (receive : List ℕ) (n : ℕ) (p : Packet) (r : Receipt) (
       }
 
   -- Its payload fits where it lands.
-  landable : (bytes packet : List ℕ) → n ≡ length bytes → Sized packet → p ≡ packet_of packet → Landable bytes packet p r
+  landable : (bytes packet : List ℕ) → n ≡ length bytes → Sized packet → x.packet ≡ packet_of packet → Landable bytes packet x
   landable bytes packet size whole read =
-      let payload : p.payloadlength ≡ payload_length packet = rw read (payload_same packet) in
+      let payload : x.packet.payloadlength ≡ payload_length packet = rw read (payload_same packet) in
       record {
         landing = λ i v e.
             let h = told _ e in
@@ -59,23 +61,25 @@ module _ (s : Saved) (receive : List ℕ) (n : ℕ) (p : Packet) (r : Receipt) (
       }
 
 -- A receipt by the table of steps.
-pub answerable : (s : Saved) (receive : List ℕ) (n : ℕ) (packet : List ℕ) (p : Packet) (r : Receipt) → Judgeable s receive packet p
-    → r ≡ receipt_of s receive n packet → Answerable receive p r
-answerable s receive n packet p r j e =
-    let t : OfReceipt s receive n p r = rw (e, j.fields) (of_receipt s receive n packet) in
+pub answerable : (s : Saved) (receive : List ℕ) (n : ℕ) (packet : List ℕ) (x : Receiving) → Judgeable s receive packet x.packet
+    → x.receipt ≡ receipt_of s receive n packet → Answerable receive x
+answerable s receive n packet x j e =
+    let t : OfReceipt s receive n x.packet x.receipt = rw (e, j.fields) (of_receipt s receive n packet) in
     record {
-      known = known s receive n p r t j.slots (payload_few packet p j.fields j.sized);
-      listed = receipt_listed s receive n p r t;
+      known = known s receive n x t j.slots (payload_few packet x.packet j.fields j.sized);
+      listed = receipt_listed s receive n x.packet x.receipt t;
       size = j.size;
     }
 
 -- ---- what acting asks
 
 -- A receive that was judged to come to a receipt.
-comes : (m : Machine) (packet : List ℕ) {p : Packet} {r : Receipt} → judge_receive m packet ≡ Receiving.ComesTo p r
-    → Landable m.bytes packet p r × Boardable p r m.saved m.receive (length m.notices)
+comes : (m : Machine) (packet : List ℕ) (x : Receiving) → judge_receive m packet ≡ Ok x
+    → Landable m.bytes packet x × Boardable x m.saved m.receive (length m.notices)
 unfolding has_room_for
-comes m packet {p} {r} h =
+comes m packet x h =
+    let p : Packet = x.packet in
+    let r : Receipt = x.receipt in
     let s : Saved = m.saved in
     let receive : List ℕ = m.receive in
     let n : ℕ = length m.bytes in
@@ -84,11 +88,11 @@ comes m packet {p} {r} h =
     let size = sound.sized.receive in
     let whole : Sized packet = sized packet c.whole in
     let posts = can_post_all s receive (receipt_posting p r) in
-    let lands : Landable m.bytes packet p r = landable s receive n p r c.says m.bytes packet refl whole c.read in
-    let boards : Boardable p r s receive (length m.notices) =
+    let lands : Landable m.bytes packet x = landable s receive n x c.says m.bytes packet refl whole c.read in
+    let boards : Boardable x s receive (length m.notices) =
     record {
       enterable = record {
-        storable = record { known = known s receive n p r c.says sound.ranges.slots (payload_few packet p c.read whole); size = size };
+        storable = record { known = known s receive n x c.says sound.ranges.slots (payload_few packet p c.read whole); size = size };
         aqr = λ e. pushable s.aqr receive sound.aqr size (or_second (not (needs_aqr p r)) (has_room s.aqr) (and_right posts _ c.room) (not_no e));
       };
       posting = postable_all s receive _ size sound.nqr sound.nbqr (receipt_posting p r) sound.heads c.listed (and_left posts _ c.room);
@@ -96,6 +100,6 @@ comes m packet {p} {r} h =
     (lands, boards)
 
 -- A receive that was judged can be acted on.
-pub receivable : (m : Machine) (packet : List ℕ) {v : Receiving} → judge_receive m packet ≡ v
+pub receivable : (m : Machine) (packet : List ℕ) {v : Result Receiving Refusal} → judge_receive m packet ≡ v
     → Receivable v m.saved m.receive m.bytes (length m.notices) packet
-receivable m packet h = record { landable = λ p r e. (comes m packet (h ∙ e)).0; boardable = λ p r e. (comes m packet (h ∙ e)).1 }
+receivable m packet h = record { landable = λ x e. (comes m packet x (h ∙ e)).0; boardable = λ x e. (comes m packet x (h ∙ e)).1 }

@@ -1,5 +1,5 @@
 -- The steps of acting on a receipt, put together. Assumes nothing.
-use Rattle.std.proofs.Common.{◌≡◌, ℕ, ◌+◌, Bool, true, false, ◌⊎◌, List, [], length, sym, refl, ap, ◌∙◌, add-zero, zero-add, arith}
+use Rattle.std.proofs.Common.{◌≡◌, ℕ, ◌+◌, ◌<◌, Bool, true, false, ◌⊎◌, List, [], length, sym, refl, ap, ◌∙◌, add-zero, zero-add, arith}
 use denote.Enum.Declared.{tag_of}
 use lib.Seq.{sets, length-sets}
 use Rattle.ground.proofs.Choice.{pick_yes, pick_no}
@@ -16,7 +16,7 @@ use Rattle.rules.specs.declared.Slot.{Slot}
 use Rattle.rules.specs.declared.SlotIndex.{SlotIndex}
 use Rattle.rules.specs.contracts.Receipt.{the_type}
 use Rattle.rules.specs.Words.{offset}
-use Rattle.rules.specs.Memory.{slot_first}
+use Rattle.rules.specs.Memory.{slots_most, slot_first}
 use Rattle.rules.specs.Packet.{payload_of}
 use Rattle.rules.specs.Saved.{with_counts, counted}
 use Rattle.rules.specs.Slots.{slot_words, store_slot}
@@ -30,8 +30,9 @@ use Rattle.replies.specs.Refusing.{Refuses}
 use Rattle.notices.specs.declared.Step.{Step}
 use Rattle.notices.specs.Steps.{Pushable, Does, Posts, PostableAll}
 use Rattle.notices.proofs.Facts.{postable_slot, postable_aqr}
-use Rattle.receiver.specs.Acting.{Known, Landable, Enterable, Boardable, Keeps, landed_on_board, Precedes, Receivable, Receives}
+use Rattle.receiver.specs.Acting.{NoData, lands_at, Landable, Enterable, Boardable, Keeps, landed_on_board, Precedes, Receivable, Receives}
 use Rattle.receiver.proofs.Meetings.{unless_lands, unless_fails}
+use Rattle.std.specs.Prelude.{Option, Result, Ok, Err}
 
 -- ---- data memory
 
@@ -42,28 +43,22 @@ unfolding payload_stored
 payload_stored_lem packet bytes bytes₂ p r i v e stored = rw e stored
 
 -- It fits.
-pub payload_fits : (bytes packet : List ℕ) (p : Packet) (r : Receipt) (i : SlotIndex) (v : Slot) → Landable bytes packet p r → r ≡ Receipt.Lands i v
-    → Landing packet (v.base + offset p.header.control0) bytes
-payload_fits bytes packet p r i v l e = l.landing i v e
-
--- Else nothing changes.
-pub payload_none : (packet bytes : List ℕ) (p : Packet) (r : Receipt) → (tag_of the_type r ≡ 0) ⊎ (tag_of the_type r ≡ 1)
-    → bytes ≡ payload_stored packet p r bytes
-unfolding payload_stored
-payload_none packet bytes p r = unless_lands (λ r. bytes ≡ payload_stored packet p r bytes) (λ f. refl) (λ i v. refl) r
+pub payload_fits : (bytes packet : List ℕ) (x : Receiving) (i : SlotIndex) (v : Slot) → Landable bytes packet x → x.receipt ≡ Receipt.Lands i v
+    → Landing packet (v.base + offset x.packet.header.control0) bytes
+payload_fits bytes packet x i v l e = l.landing i v e
 
 -- ---- the slot stored
 
 -- Where data lands.
-pub slot_stored_lem : (receive receive₂ : List ℕ) (p : Packet) (r : Receipt) (i : SlotIndex) (v w : Slot) → r ≡ Receipt.Lands i v
-    → w ≡ slot_after p v → receive₂ ≡ store_slot receive i w → receive₂ ≡ slot_stored p r receive
+pub slot_stored_lem : (receive receive₂ : List ℕ) (x : Receiving) (p : Packet) (i : SlotIndex) (v w : Slot) → x ≡ lands_at p i v
+    → w ≡ slot_after p v → receive₂ ≡ store_slot receive i w → receive₂ ≡ slot_stored x.packet x.receipt receive
 unfolding slot_stored
-slot_stored_lem receive receive₂ p r i v w e left stored = rw e (stored ∙ ap (store_slot receive i) left)
+slot_stored_lem receive receive₂ x p i v w e left stored = rw e (stored ∙ ap (store_slot receive i) left)
 
 -- Else.
-pub slot_kept : (receive : List ℕ) (p : Packet) (r : Receipt) → (tag_of the_type r ≡ 0) ⊎ (tag_of the_type r ≡ 1) → receive ≡ slot_stored p r receive
+pub slot_kept : (receive : List ℕ) (x : Receiving) → NoData x.receipt → receive ≡ slot_stored x.packet x.receipt receive
 unfolding slot_stored
-slot_kept receive p r = unless_lands (λ r. receive ≡ slot_stored p r receive) (λ f. refl) (λ i v. refl) r
+slot_kept receive x = unless_lands (λ r. receive ≡ slot_stored x.packet r receive) (λ f. refl) (λ i v. refl) x.receipt
 
 -- Receive RAM has its size.
 slot_length : (receive : List ℕ) (p : Packet) (r : Receipt) → length (slot_stored p r receive) ≡ length receive
@@ -73,36 +68,35 @@ slot_length receive p (Receipt.Acks i v) = refl
 slot_length receive p (Receipt.Lands i v) = length-sets receive (slot_first i) (slot_words (slot_after p v))
 
 -- What could be posted still can.
-slot_keeps : (s : Saved) (receive : List ℕ) (p : Packet) (r : Receipt) → Known p r → Keeps s receive s (slot_stored p r receive)
+slot_keeps : (s : Saved) (receive : List ℕ) (p : Packet) (r : Receipt) → ((i : SlotIndex) (v : Slot) → r ≡ Receipt.Lands i v → i.0 < slots_most)
+    → Keeps s receive s (slot_stored p r receive)
 unfolding slot_stored store_slot
-slot_keeps s receive p (Receipt.Fails f) k = record { postable = λ n l h. h }
-slot_keeps s receive p (Receipt.Acks i v) k = record { postable = λ n l h. h }
-slot_keeps s receive p (Receipt.Lands i v) k =
-    record { postable = λ n l. postable_slot s receive n (slot_first i) (slot_words (slot_after p v)) l (omega (arith, (k.lands i v refl).low)) }
+slot_keeps s receive p (Receipt.Fails f) low = record { postable = λ n l h. h }
+slot_keeps s receive p (Receipt.Acks i v) low = record { postable = λ n l h. h }
+slot_keeps s receive p (Receipt.Lands i v) low =
+    record { postable = λ n l. postable_slot s receive n (slot_first i) (slot_words (slot_after p v)) l (omega (arith, low i v refl)) }
 
 -- ---- the entry on AQR
 
-module _ (p : Packet) (r : Receipt) (s : Saved) (receive : List ℕ) (i : SlotIndex) (v : Slot) (e : r ≡ Receipt.Lands i v) where
-  -- What is known of it.
-  pub entry_knows : Enterable p r s receive → Known p (Receipt.Lands i v)
-  entry_knows a = rw e at a.storable.known
-
+module _ (x : Receiving) (s : Saved) (receive : List ℕ) where
   -- It is pushed where it is needed.
-  pub entry_asks : (needed : Bool) → Enterable p r s receive → needed ≡ needs_aqr p (Receipt.Lands i v) → needed ≡ true → Pushable s.aqr receive
-  entry_asks needed a t test = a.aqr (ap (needs_aqr p) e ∙ sym t ∙ test)
+  pub entry_asks : (needed : Bool) → Enterable x s receive → needed ≡ needs_aqr x.packet x.receipt → needed ≡ true → Pushable s.aqr receive
+  entry_asks needed a t test = a.aqr (sym t ∙ test)
 
-  pub entered : (needed : Bool) (step : Step) (receive₂ : List ℕ) → needed ≡ needs_aqr p (Receipt.Lands i v) → needed ≡ true
-      → Does (push_aqr (aqr_entry i)) 1 s receive step receive₂ → Precedes (aqr_stored p r) s receive step receive₂
+  pub entered : (p : Packet) (i : SlotIndex) (v : Slot) (needed : Bool) (step : Step) (receive₂ : List ℕ) → x ≡ lands_at p i v
+      → needed ≡ needs_aqr x.packet x.receipt → needed ≡ true → Does (push_aqr (aqr_entry i)) 1 s receive step receive₂
+      → Precedes (aqr_stored x.packet x.receipt) s receive step receive₂
   unfolding aqr_stored
-  entered needed step receive₂ t test d =
+  entered p i v needed step receive₂ e t test d =
+      let yes : needs_aqr p (Receipt.Lands i v) ≡ true = sym (ap (λ (y : Receiving). needs_aqr y.packet y.receipt) e) ∙ sym t ∙ test in
       record {
-        board = rw e (record { whole = λ notices sum. d.whole notices sum ∙ sym (pick_yes _ _ (sym t ∙ test)); small = d.small });
+        board = rw e (record { whole = λ notices sum. d.whole notices sum ∙ sym (pick_yes _ _ yes); small = d.small });
         kept = record { postable = λ n l. postable_aqr (aqr_entry i) s receive receive₂ step n l d };
       }
 
-module _ (p : Packet) (r : Receipt) (s : Saved) (receive : List ℕ) where
   -- A receipt that pushes none leaves all as it was.
-  none_entered : ((b : Board) → b ≡ aqr_stored p r b) → Precedes (aqr_stored p r) s receive (record { saved = s; interrupts = 0 }) receive
+  none_entered : ((b : Board) → b ≡ aqr_stored x.packet x.receipt b)
+      → Precedes (aqr_stored x.packet x.receipt) s receive (record { saved = s; interrupts = 0 }) receive
   none_entered same =
       record {
         board = record { whole = λ notices sum. rw (add-zero sum) (same _); small = omega arith };
@@ -110,37 +104,40 @@ module _ (p : Packet) (r : Receipt) (s : Saved) (receive : List ℕ) where
       }
 
   -- Data that needs none.
-  pub not_entered : (i : SlotIndex) (v : Slot) (needed : Bool) → r ≡ Receipt.Lands i v → needed ≡ needs_aqr p (Receipt.Lands i v) → needed ≡ false
-      → Precedes (aqr_stored p r) s receive (record { saved = s; interrupts = 0 }) receive
+  pub not_entered : (p : Packet) (i : SlotIndex) (v : Slot) (needed : Bool) → x ≡ lands_at p i v → needed ≡ needs_aqr x.packet x.receipt
+      → needed ≡ false → Precedes (aqr_stored x.packet x.receipt) s receive (record { saved = s; interrupts = 0 }) receive
   unfolding aqr_stored
-  not_entered i v needed e t test = none_entered (λ b. rw e (sym (pick_no _ _ (sym t ∙ test))))
+  not_entered p i v needed e t test =
+      let no : needs_aqr p (Receipt.Lands i v) ≡ false = sym (ap (λ (y : Receiving). needs_aqr y.packet y.receipt) e) ∙ sym t ∙ test in
+      none_entered (λ b. rw e (sym (pick_no _ _ no)))
 
   -- An ack or a fault.
-  pub never_entered : (tag_of the_type r ≡ 0) ⊎ (tag_of the_type r ≡ 1)
-      → Precedes (aqr_stored p r) s receive (record { saved = s; interrupts = 0 }) receive
+  pub never_entered : NoData x.receipt → Precedes (aqr_stored x.packet x.receipt) s receive (record { saved = s; interrupts = 0 }) receive
   unfolding aqr_stored
-  never_entered t = none_entered (λ b. unless_lands (λ r. b ≡ aqr_stored p r b) (λ f. refl) (λ i v. refl) r t)
+  never_entered t = none_entered (λ b. unless_lands (λ r. b ≡ aqr_stored x.packet r b) (λ f. refl) (λ i v. refl) x.receipt t)
 
 -- ---- the slot and the entry
 
-module _ (p : Packet) (r : Receipt) (s : Saved) (receive receive₂ : List ℕ) (a : Enterable p r s receive) (stored : receive₂ ≡ slot_stored p r receive) where
-  pub land_asks : Enterable p r s receive₂
+module _ (x : Receiving) (s : Saved) (receive receive₂ : List ℕ) (a : Enterable x s receive) (stored : receive₂ ≡ slot_stored x.packet x.receipt receive) where
+  pub land_asks : Enterable x s receive₂
   land_asks =
-      let size : length receive₂ ≡ length receive = ap length stored ∙ slot_length receive p r in
+      let size : length receive₂ ≡ length receive = ap length stored ∙ slot_length receive x.packet x.receipt in
       record {
         storable = record { known = a.storable.known; size = size ∙ a.storable.size };
         aqr = λ e. let q = a.aqr e in record { size = size ∙ q.size; place = q.place; room = q.room };
       }
 
-  pub lands : (step : Step) (receive₃ : List ℕ) → Precedes (aqr_stored p r) s receive₂ step receive₃ → Precedes (landed_on_board p r) s receive step receive₃
+  pub lands : (step : Step) (receive₃ : List ℕ) → Precedes (aqr_stored x.packet x.receipt) s receive₂ step receive₃
+      → Precedes (landed_on_board x) s receive step receive₃
   lands step receive₃ e =
+      let low : (i : SlotIndex) (v : Slot) → x.receipt ≡ Receipt.Lands i v → i.0 < slots_most = λ i v is. (a.storable.known.lands i v is).low in
       record {
         board = record {
-          whole = λ notices sum. e.board.whole notices sum ∙ ap (λ (ws : List ℕ). aqr_stored p r (board s ws notices sum)) stored;
+          whole = λ notices sum. e.board.whole notices sum ∙ ap (λ (ws : List ℕ). aqr_stored x.packet x.receipt (board s ws notices sum)) stored;
           small = e.board.small;
         };
         kept = record {
-          postable = λ n l h. e.kept.postable n l (rw stored ((slot_keeps s receive p r a.storable.known).postable n l h));
+          postable = λ n l h. e.kept.postable n l (rw stored ((slot_keeps s receive x.packet x.receipt low).postable n l h));
         };
       }
 
@@ -160,14 +157,14 @@ counts_taken r s n t more = unless_fails (λ r. with_counts n s.faulted s ≡ co
 
 -- ---- the board
 
-module _ (p : Packet) (r : Receipt) (s : Saved) (receive receive₂ : List ℕ) (step : Step) (posting : Posting) (made : posting ≡ receipt_posting p r)
-    (l : Precedes (landed_on_board p r) s receive step receive₂) where
-  pub post_asks : (n : ℕ) → Boardable p r s receive n → PostableAll step.saved receive₂ n posting
-  post_asks n a = record { on = λ i m e. l.kept.postable _ i (a.posting.on i m (sym made ∙ e)) }
+module _ (x : Receiving) (s : Saved) (receive receive₂ : List ℕ) (step : Step) (posting : Option Posting)
+    (made : posting ≡ receipt_posting x.packet x.receipt) (l : Precedes (landed_on_board x) s receive step receive₂) where
+  pub post_asks : (n : ℕ) → Boardable x s receive n → PostableAll step.saved receive₂ n posting
+  post_asks n a = record { on = λ q e. l.kept.postable _ q.list (a.posting.on q (sym made ∙ e)) }
 
   pub on_board_lem : (notices notices₂ receive₃ : List ℕ) (step₂ : Step) (s₃ : Saved)
-      → Posts (post_all posting) 6 step.saved receive₂ notices step₂ receive₃ notices₂ → s₃ ≡ counted_by r step₂.saved
-      → Posts (received_on_board p r) 7 s receive notices (record { saved = s₃; interrupts = step.interrupts + step₂.interrupts }) receive₃ notices₂
+      → Posts (post_all posting) 6 step.saved receive₂ notices step₂ receive₃ notices₂ → s₃ ≡ counted_by x.receipt step₂.saved
+      → Posts (received_on_board x.packet x.receipt) 7 s receive notices (record { saved = s₃; interrupts = step.interrupts + step₂.interrupts }) receive₃ notices₂
   unfolding received_on_board
   on_board_lem notices notices₂ receive₃ step₂ s₃ d counts =
       record {
@@ -175,31 +172,32 @@ module _ (p : Packet) (r : Receipt) (s : Saved) (receive receive₂ : List ℕ) 
             λ sum.
             let z : sum + (step.interrupts + step₂.interrupts) ≡ sum + step.interrupts + step₂.interrupts = omega arith in
             rw (z, counts)
-            (ap (on_saved (counted_by r)) (d.whole (sum + step.interrupts) ∙ rw (l.board.whole notices sum, made)));
+            (ap (on_saved (counted_by x.receipt)) (d.whole (sum + step.interrupts) ∙ rw (l.board.whole notices sum, made)));
         small = omega (arith, l.board.small, d.small);
       }
 
 -- ---- the receipt
 
 -- What acting asks of what was judged.
-module _ {s : Saved} {receive bytes : List ℕ} {n : ℕ} {packet : List ℕ} {v : Receiving} (a : Receivable v s receive bytes n packet) {p : Packet} {r : Receipt} where
-  pub payload_asks : v ≡ Receiving.ComesTo p r → Landable bytes packet p r
-  payload_asks e = a.landable p r e
+module _ {s : Saved} {receive bytes : List ℕ} {n : ℕ} {packet : List ℕ} {v : Result Receiving Refusal} (a : Receivable v s receive bytes n packet) {x : Receiving} where
+  pub payload_asks : v ≡ Ok x → Landable bytes packet x
+  payload_asks e = a.landable x e
 
-  pub board_asks : v ≡ Receiving.ComesTo p r → Boardable p r s receive n
-  board_asks e = a.boardable p r e
+  pub board_asks : v ≡ Ok x → Boardable x s receive n
+  board_asks e = a.boardable x e
 
 -- By what was judged.
-module _ (v : Receiving) (s : Saved) (receive bytes notices packet : List ℕ) where
+module _ (v : Result Receiving Refusal) (s : Saved) (receive bytes notices packet : List ℕ) where
   -- A refusal changes nothing.
-  pub receives_no : (why : Refusal) (a : Answer) → v ≡ Receiving.No why → Refuses s why a → Receives v s receive bytes notices packet a receive bytes notices
+  pub receives_no : (why : Refusal) (a : Answer) → v ≡ Err why → Refuses s why a → Receives v s receive bytes notices packet a receive bytes notices
   unfolding act_receive
   receives_no why a e told = record { whole = λ send. rw e (told.whole send receive bytes notices []) }
 
   -- The payload in data memory, the rest on the board, the reply.
-  pub receives : (p : Packet) (r : Receipt) (step : Step) (receive₂ bytes₂ notices₂ : List ℕ) (reply : Reply) → v ≡ Receiving.ComesTo p r
-      → bytes₂ ≡ payload_stored packet p r bytes → Posts (received_on_board p r) 7 s receive notices step receive₂ notices₂ → reply ≡ receipt_reply r
+  pub receives : (x : Receiving) (step : Step) (receive₂ bytes₂ notices₂ : List ℕ) (reply : Reply) → v ≡ Ok x
+      → bytes₂ ≡ payload_stored packet x.packet x.receipt bytes
+      → Posts (received_on_board x.packet x.receipt) 7 s receive notices step receive₂ notices₂ → reply ≡ receipt_reply x.receipt
       → Receives v s receive bytes notices packet (record { reply = reply; interrupts = step.interrupts; saved = step.saved }) receive₂ bytes₂ notices₂
   unfolding act_receive received
-  receives p r step receive₂ bytes₂ notices₂ reply is landed d told =
+  receives x step receive₂ bytes₂ notices₂ reply is landed d told =
       record { whole = λ send. rw (is, told, landed, ← d.whole 0, zero-add step.interrupts) }

@@ -1,6 +1,6 @@
 -- What acting on a receipt asks, and what its steps give. What a step gives holds whatever the memories hold that it is not lent. Assumes
 -- nothing.
-use Rattle.std.specs.Prelude.{◌≡◌, ℕ, ◌+◌, ◌^◌, ◌<◌, ◌≤◌, true, List, [], length}
+use Rattle.std.specs.Prelude.{Result, Ok, ◌≡◌, ◌≢◌, ℕ, ◌+◌, ◌<◌, ◌≤◌, true, List, [], length}
 use Rattle.rules.specs.declared.Saved.{Saved}
 use Rattle.rules.specs.declared.SlotIndex.{SlotIndex}
 use Rattle.rules.specs.declared.ListIndex.{ListIndex}
@@ -9,7 +9,7 @@ use Rattle.rules.specs.declared.Packet.{Packet}
 use Rattle.rules.specs.declared.Receipt.{Receipt}
 use Rattle.rules.specs.declared.Receiving.{Receiving}
 use Rattle.rules.specs.declared.Answer.{Answer}
-use Rattle.rules.specs.Words.{most24, offset}
+use Rattle.rules.specs.Words.{offset}
 use Rattle.rules.specs.Memory.{machine, receive_size, slots_most}
 use Rattle.rules.specs.Board.{Board, on_receive}
 use Rattle.rules.specs.Packet.{packet_most}
@@ -20,49 +20,52 @@ use Rattle.laws.specs.Receipts.{Usable}
 use Rattle.packet.specs.Packet.{Landing}
 use Rattle.notices.specs.declared.Step.{Step}
 use Rattle.notices.specs.Steps.{Pushable, Does, Postable, PostableAll}
+use Rattle.rules.specs.declared.Refusal.{Refusal}
 
 -- ---- what acting asks
 
 -- A packet, and the slot of the table that it lands in.
-pub record Meeting (i : SlotIndex) (p : Packet) (v : Slot) : Type 0 where
+pub record Meets (i : SlotIndex) (p : Packet) (v : Slot) : Type 0 where
   pub low : i.0 < slots_most
   pub payload : p.payloadlength ≤ packet_most
   pub usable : Usable v
 
+-- A receipt of no data: a fault or an ack.
+abbrev pub NoData : Receipt → Type 0
+NoData r = (i : SlotIndex) (v : Slot) → r ≢ Receipt.Lands i v
+
+-- Data that lands.
+abbrev pub lands_at : Packet → SlotIndex → Slot → Receiving
+lands_at p i v = record { packet = p; receipt = Receipt.Lands i v }
+
 -- A receipt by the table of steps: a fault, or a slot of the table; where data lands, one that is valid.
-pub record Known (p : Packet) (r : Receipt) : Type 0 where
-  pub acks : (i : SlotIndex) (v : Slot) → r ≡ Receipt.Acks i v → i.0 < slots_most
-  pub lands : (i : SlotIndex) (v : Slot) → r ≡ Receipt.Lands i v → Meeting i p v
+pub record Known (x : Receiving) : Type 0 where
+  pub acks : (i : SlotIndex) (v : Slot) → x.receipt ≡ Receipt.Acks i v → i.0 < slots_most
+  pub lands : (i : SlotIndex) (v : Slot) → x.receipt ≡ Receipt.Lands i v → Meets i x.packet v
 
 -- A slot can be stored.
-pub record Storable (p : Packet) (r : Receipt) (receive : List ℕ) : Type 0 where
-  pub known : Known p r
+pub record Storable (x : Receiving) (receive : List ℕ) : Type 0 where
+  pub known : Known x
   pub size : length receive ≡ receive_size
 
 -- And its entry pushed.
-pub record Enterable (p : Packet) (r : Receipt) (s : Saved) (receive : List ℕ) : Type 0 where
-  pub storable : Storable p r receive
-  pub aqr : needs_aqr p r ≡ true → Pushable s.aqr receive
+pub record Enterable (x : Receiving) (s : Saved) (receive : List ℕ) : Type 0 where
+  pub storable : Storable x receive
+  pub aqr : needs_aqr x.packet x.receipt ≡ true → Pushable s.aqr receive
 
 -- A receipt's notice can be posted, too.
-pub record Boardable (p : Packet) (r : Receipt) (s : Saved) (receive : List ℕ) (n : ℕ) : Type 0 where
-  pub enterable : Enterable p r s receive
-  pub posting : PostableAll s receive n (receipt_posting p r)
+pub record Boardable (x : Receiving) (s : Saved) (receive : List ℕ) (n : ℕ) : Type 0 where
+  pub enterable : Enterable x s receive
+  pub posting : PostableAll s receive n (receipt_posting x.packet x.receipt)
 
 -- A packet whose payload fits.
-pub record Landable (bytes packet : List ℕ) (p : Packet) (r : Receipt) : Type 0 where
-  pub landing : (i : SlotIndex) (v : Slot) → r ≡ Receipt.Lands i v → Landing packet (v.base + offset p.header.control0) bytes
+pub record Landable (bytes packet : List ℕ) (x : Receiving) : Type 0 where
+  pub landing : (i : SlotIndex) (v : Slot) → x.receipt ≡ Receipt.Lands i v → Landing packet (v.base + offset x.packet.header.control0) bytes
 
 -- A receive can be acted on; a refusal asks nothing.
-pub record Receivable (v : Receiving) (s : Saved) (receive bytes : List ℕ) (n : ℕ) (packet : List ℕ) : Type 0 where
-  pub landable : (p : Packet) (r : Receipt) → v ≡ Receiving.ComesTo p r → Landable bytes packet p r
-  pub boardable : (p : Packet) (r : Receipt) → v ≡ Receiving.ComesTo p r → Boardable p r s receive n
-
--- A slot whose notice has no word beyond 32 bits.
-pub record Notable (i : SlotIndex) (v : Slot) : Type 0 where
-  pub low : i.0 < slots_most
-  pub offset : v.msgoffset ≤ most24
-  pub size : v.metaword + v.msgsize < 2 ^ 32
+pub record Receivable (v : Result Receiving Refusal) (s : Saved) (receive bytes : List ℕ) (n : ℕ) (packet : List ℕ) : Type 0 where
+  pub landable : (x : Receiving) → v ≡ Ok x → Landable bytes packet x
+  pub boardable : (x : Receiving) → v ≡ Ok x → Boardable x s receive n
 
 -- ---- what its steps give
 
@@ -71,8 +74,8 @@ pub record Keeps (s : Saved) (receive : List ℕ) (s₂ : Saved) (receive₂ : L
   pub postable : (n : ℕ) (l : ListIndex) → Postable s receive n l → Postable s₂ receive₂ n l
 
 -- The slot stored, then the AQR entry pushed.
-abbrev pub landed_on_board : Packet → Receipt → Board → Board
-landed_on_board p r b = aqr_stored p r (on_receive (slot_stored p r) b)
+abbrev pub landed_on_board : Receiving → Board → Board
+landed_on_board x b = aqr_stored x.packet x.receipt (on_receive (slot_stored x.packet x.receipt) b)
 
 -- A step that comes before the posting was done.
 pub record Precedes (f : Board → Board) (s : Saved) (receive : List ℕ) (step : Step) (receive₂ : List ℕ) : Type 0 where
@@ -80,5 +83,5 @@ pub record Precedes (f : Board → Board) (s : Saved) (receive : List ℕ) (step
   pub kept : Keeps s receive step.saved receive₂
 
 -- A receive was carried out or refused.
-pub record Receives (v : Receiving) (s : Saved) (receive bytes notices packet : List ℕ) (a : Answer) (receive₂ bytes₂ notices₂ : List ℕ) : Type 0 where
+pub record Receives (v : Result Receiving Refusal) (s : Saved) (receive bytes notices packet : List ℕ) (a : Answer) (receive₂ bytes₂ notices₂ : List ℕ) : Type 0 where
   pub whole : (send : List ℕ) → answered a send receive₂ bytes₂ notices₂ [] ≡ act_receive (machine s send receive bytes notices) packet v

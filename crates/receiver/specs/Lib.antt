@@ -1,4 +1,3 @@
 -- What the functions of `receiver` ask and what they leave. Assumes nothing.
-pub mod ToGo
 pub mod Acting
 pub mod Judging

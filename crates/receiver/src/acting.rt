@@ -6,58 +6,62 @@ ghost use Rattle.notices.specs.Steps.{Posts};
 ghost use Rattle.receiver.specs.Acting.{Receivable, Landable, Storable, Enterable, Boardable};
 ghost use Rattle.receiver.specs.Acting.{landed_on_board, Precedes, Receives};
 
-use crate::{first_failure, landing, posting};
+use crate::meeting::Meeting;
+use crate::posting;
 use notices::Step;
 use replies::refuse;
-use rules::{Answer, Packet, Receipt, Receiving, Reply, Saved};
+use rules::{Answer, Receipt, Receiving, Refusal, Reply, Saved};
 
 // "payload to base plus offset".
 #[tactic(auto, using(crate::proofs::Steps::payload_stored_lem, crate::proofs::Steps::payload_fits), unfolding(rules::specs::Receipt::payload_stored))]
-fn store_payload(bytes: &mut [u8], packet: &[u8], p: Packet, r: Receipt)
-    requires { Landable bytes.old packet.now p r }
-    ensures { bytes.new ≡ payload_stored packet.now p r bytes.old }
+fn store_payload(bytes: &mut [u8], packet: &[u8], x: Receiving)
+    requires { Landable bytes.old packet.now x }
+    ensures { bytes.new ≡ payload_stored packet.now x.packet x.receipt bytes.old }
 {
-    if let Receipt::Lands(_, v) = r {
-        let h = p.header;
-        packet::land::payload(bytes, v.base, h.control0 % 0x100_0000, packet);
+    if let Receipt::Lands(_, v) = x.receipt {
+        let offset = x.packet.header.control0 % 0x100_0000;
+        packet::land::payload(bytes, v.base, offset, packet);
     }
 }
 
 // The slot after the packet; an ack and a fault leave it.
-fn store_slot(receive: &mut [u32], p: Packet, r: Receipt)
-    requires { Storable p r receive.old }
-    ensures { receive.new ≡ slot_stored p r receive.old }
+#[tactic(auto, using(crate::proofs::Steps::slot_kept))]
+fn store_slot(receive: &mut [u32], x: Receiving)
+    requires { Storable x receive.old }
+    ensures { receive.new ≡ slot_stored x.packet x.receipt receive.old }
 {
-    if let Receipt::Lands(i, v) = r {
-        tables::store_slot(receive, i, landing::slot_after(p, v));
+    if let Some(m) = Meeting::of(x) {
+        tables::store_slot(receive, m.index, m.slot_after());
     }
 }
 
 // Slot plus 2^31 on AQR, where it is needed.
-fn push_entry(p: Packet, r: Receipt, s: Saved, receive: &mut [u32]) -> Step
-    requires { Enterable p r s receive.old }
-    ensures { Precedes (aqr_stored p r) s receive.old result receive.new }
+#[tactic(auto, using(crate::proofs::Steps::entry_asks))]
+fn push_entry(x: Receiving, s: Saved, receive: &mut [u32]) -> Step
+    requires { Enterable x s receive.old }
+    ensures { Precedes (aqr_stored x.packet x.receipt) s receive.old result receive.new }
 {
     let left = Step {
         saved: s,
         interrupts: 0,
     };
-    let Receipt::Lands(i, _) = r else {
+    let Some(m) = Meeting::of(x) else {
         return left;
     };
-    if posting::needs_aqr(p, r) {
-        return notices::push_aqr(i.0 + 0x8000_0000, s, receive);
+    if posting::needs_aqr(x) {
+        return notices::push_aqr(m.index.0 + 0x8000_0000, s, receive);
     }
     left
 }
 
 // The slot is stored, and its entry pushed.
-fn land(p: Packet, r: Receipt, s: Saved, receive: &mut [u32]) -> Step
-    requires { Enterable p r s receive.old }
-    ensures { Precedes (landed_on_board p r) s receive.old result receive.new }
+#[tactic(auto, using(crate::proofs::Steps::land_asks, crate::proofs::Steps::lands))]
+fn land(x: Receiving, s: Saved, receive: &mut [u32]) -> Step
+    requires { Enterable x s receive.old }
+    ensures { Precedes (landed_on_board x) s receive.old result receive.new }
 {
-    store_slot(receive, p, r);
-    push_entry(p, r, s, receive)
+    store_slot(receive, x);
+    push_entry(x, s, receive)
 }
 
 // One packet more, taken or faulted.
@@ -65,37 +69,30 @@ fn land(p: Packet, r: Receipt, s: Saved, receive: &mut [u32]) -> Step
 fn count(r: Receipt, s: Saved) -> Saved
     ensures { result ≡ counted_by r s }
 {
-    let mut saved = s;
     match r {
-        Receipt::Fails(_) => {
-            saved.faulted = std::num::wrapping_add_u32(s.faulted, 1);
-        }
-        Receipt::Acks(_, _) | Receipt::Lands(_, _) => {
-            saved.taken = std::num::wrapping_add_u32(s.taken, 1);
-        }
+        Receipt::Fails(_) => Saved {
+            faulted: s.faulted.wrapping_add(1),
+            ..s
+        },
+        Receipt::Acks(..) | Receipt::Lands(..) => Saved {
+            taken: s.taken.wrapping_add(1),
+            ..s
+        },
     }
-    saved
 }
 
 // All but data memory.
-fn receive_on_board(
-    p: Packet,
-    r: Receipt,
-    s: Saved,
-    receive: &mut [u32],
-    notices: &mut [u32],
-) -> Step
-    requires { Boardable p r s receive.old (length notices.old) }
-    ensures { Posts (received_on_board p r) 7 s receive.old notices.old result
+#[tactic(auto, using(crate::proofs::Steps::post_asks))]
+fn receive_on_board(x: Receiving, s: Saved, receive: &mut [u32], notices: &mut [u32]) -> Step
+    requires { Boardable x s receive.old (length notices.old) }
+    ensures { Posts (received_on_board x.packet x.receipt) 7 s receive.old notices.old result
         receive.new notices.new }
 {
-    let landed = land(p, r, s, receive);
-    let saved = landed.saved;
-    let posting = posting::receipt_posting(p, r);
-    let posted = notices::post_all(posting, saved, receive, notices);
-    let saved = posted.saved;
+    let landed = land(x, s, receive);
+    let posting = posting::receipt_posting(x);
+    let posted = notices::post_all(posting, landed.saved, receive, notices);
     Step {
-        saved: count(r, saved),
+        saved: count(x.receipt, posted.saved),
         interrupts: landed.interrupts + posted.interrupts,
     }
 }
@@ -106,14 +103,15 @@ fn reply(r: Receipt) -> Reply
     ensures { result ≡ receipt_reply r }
 {
     match r {
-        Receipt::Fails(f) => Reply::Fault(first_failure::fault_status(f)),
-        Receipt::Acks(_, _) | Receipt::Lands(_, _) => Reply::Done(0),
+        Receipt::Fails(f) => Reply::Fault(f as u32),
+        Receipt::Acks(..) | Receipt::Lands(..) => Reply::Done(0),
     }
 }
 
-// By what was judged: the payload, all that is on the board, and the reply.
+// By what was judged: the payload, all that is on the board, and the reply. (The memories stay apart: `&mut` says which a receipt may write.)
+#[tactic(auto, using(crate::proofs::Steps::payload_asks, crate::proofs::Steps::receives_no, crate::proofs::Steps::receives))]
 pub fn act_receive(
-    v: Receiving,
+    v: Result<Receiving, Refusal>,
     s: Saved,
     receive: &mut [u32],
     bytes: &mut [u8],
@@ -125,15 +123,14 @@ pub fn act_receive(
         receive.new bytes.new notices.new }
 {
     match v {
-        Receiving::No(why) => refuse(s, why),
-        Receiving::ComesTo(p, r) => {
-            store_payload(bytes, packet, p, r);
-            let done = receive_on_board(p, r, s, receive, notices);
-            let saved = done.saved;
+        Err(why) => refuse(s, why),
+        Ok(x) => {
+            store_payload(bytes, packet, x);
+            let done = receive_on_board(x, s, receive, notices);
             Answer {
-                reply: reply(r),
+                reply: reply(x.receipt),
                 interrupts: done.interrupts,
-                saved,
+                saved: done.saved,
             }
         }
     }

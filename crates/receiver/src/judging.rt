@@ -2,50 +2,46 @@
 ghost use Rattle.std.specs.Prelude.{◌≡◌};
 ghost use Rattle.rules.specs.Receipt.{has_room_for};
 ghost use Rattle.rules.specs.Calls.{judge_receive};
-ghost use Rattle.laws.specs.Lent.{before};
+ghost use Rattle.laws.specs.Lent.{seen};
 ghost use Rattle.receiver.specs.Judging.{Answerable};
 
 use crate::{first_failure, posting};
 use packet::read;
 use rules::sizes::QUEUE_SIZE;
-use rules::{Packet, Receipt, Receiving, Refusal, Saved, Verdict};
+use rules::{Receiving, Refusal, Seen};
 
 // Whether a receipt's notice can be posted and its AQR entry pushed; else stalled.
-fn has_room_for(s: Saved, receive: &[u32], p: Packet, r: Receipt) -> bool
-    requires { Answerable receive.now p r }
-    ensures { result ≡ has_room_for s receive.now p r }
+#[tactic(auto, using(crate::proofs::Rooms::post_asks, crate::proofs::Rooms::room))]
+fn has_room_for(m: &Seen<'_>, x: Receiving) -> bool
+    requires { Answerable m.now.receive.now x }
+    ensures { result ≡ has_room_for m.now.saved m.now.receive.now x.packet x.receipt }
 {
-    let aqr = s.aqr;
-    let notice = posting::receipt_posting(p, r);
-    let entry = posting::needs_aqr(p, r);
-    notices::can_post_all(s, receive, notice) & (!entry | (aqr.length < QUEUE_SIZE))
+    let s = m.saved;
+    let notice = posting::receipt_posting(x);
+    let entry = posting::needs_aqr(x);
+    notices::can_post_all(s, m.receive, notice) & (!entry | (s.aqr.length < QUEUE_SIZE))
 }
 
 // What a receive of a packet does, by the table's rows in their order.
-pub fn judge_receive(
-    s: Saved,
-    send: &[u32],
-    receive: &[u32],
-    bytes: &[u8],
-    notices: &[u32],
-    packet: &[u8],
-) -> Receiving
-    ensures { result ≡ judge_receive (before s send.now receive.now bytes.now notices.now) packet.now }
+#[tactic(auto, using(sound::proofs::Passing::gated_go, ground::proofs::Choice::judging, packet::proofs::Reading::sized), unfolding(rules::specs::Calls::judge_receive))]
+pub fn judge_receive(m: &Seen<'_>, packet: &[u8]) -> Result<Receiving, Refusal>
+    ensures { result ≡ judge_receive (seen m.now) packet.now }
 {
-    if let Verdict::No(why) = sound::gate(s, send, receive, bytes.len(), notices.len()) {
-        return Receiving::No(why);
-    }
-    let enable = s.pcsr0 / 0x4000_0000 % 2 == 1;
+    sound::gate(m.saved, m.send, m.receive, m.bytes.len(), m.notices.len())?;
+    let enable = m.saved.pcsr0 / 0x4000_0000 % 2 == 1;
     if !enable {
-        return Receiving::No(Refusal::Off);
+        return Err(Refusal::Off);
     }
     if !read::is_packet(packet) {
-        return Receiving::No(Refusal::NoPacket);
+        return Err(Refusal::NoPacket);
     }
     let p = read::fields(packet);
-    let receipt = first_failure::receipt_of(s, receive, bytes.len(), packet, p);
-    if !has_room_for(s, receive, p, receipt) {
-        return Receiving::No(Refusal::Stalled);
+    let x = Receiving {
+        packet: p,
+        receipt: first_failure::receipt_of(m, packet, p),
+    };
+    if !has_room_for(m, x) {
+        return Err(Refusal::Stalled);
     }
-    Receiving::ComesTo(p, receipt)
+    Ok(x)
 }

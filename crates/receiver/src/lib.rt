@@ -2,9 +2,11 @@
 #![tactic(auto)]
 
 mod acting;
+mod choice;
 mod first_failure;
 mod judging;
 mod landing;
+mod meeting;
 mod posting;
 mod slots;
 mod togo;

@@ -7,6 +7,7 @@ use rules::Slot;
 use rules::sizes::{LISTS, MOST24};
 
 // A slot is valid, beside a data memory of datalength bytes.
+#[tactic(auto, unfolding(rules::specs::Slots::slot_ok))]
 pub(crate) fn slot_ok(v: Slot, datalength: usize) -> bool
     ensures { result ≡ slot_ok v datalength }
 {

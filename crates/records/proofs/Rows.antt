@@ -1,32 +1,42 @@
 -- A row of records taken one at a time. Assumes nothing.
-use Prim.Native.Nat.{ℕ, zero, suc, ◌+◌, ◌-◌, ◌*◌, ◌/◌, ◌<◌, ◌≤◌, min}
+use Prim.Native.Nat.{ℕ, zero, suc, ◌+◌, ◌*◌, ◌/◌, ◌<◌, ◌≤◌, min}
 use mathlib.Core.Path.{◌≡◌, refl, sym, ap, ap₂, ◌∙◌}
 use mathlib.Core.List.{List, [], ◌∷◌, ◌++◌, append_assoc}
-use native.Mathlib.Decide.{dec_le}
 use native.Mathlib.Omega.{arith}
 use lib.ListN.{length, take, drop, length-append, length-drop}
-use lib.Seq.{sets, take_all, drop-drop, take-append-le, drop-append-le}
+use lib.Seq.{sets, take-append_seam, drop-append_seam, take-append-le, drop-append-le}
+use Rattle.std.proofs.lemmas.List.{take_min, drop_min}
 use Rattle.ground.proofs.Lists.{sets_append}
 use Rattle.rules.specs.declared.Answer.{Answer}
 use Rattle.rules.specs.Memory.{Machine, machine}
 use Rattle.rules.specs.Replies.{Outcome, answered, reply_number, reply_value}
 use Rattle.rules.specs.Station.{record_size, kind_of, line_of, record_line, lines_from}
 use Rattle.lines.specs.Lines.{Written, line_most}
-use Rattle.records.specs.declared.running.Progress.{Progress}
-use Rattle.records.specs.Records.{outcome_of, Gives, Steps, machine_after, Parted}
+use Rattle.records.specs.Records.{Keeps, outcome_of, Gives, Steps, machine_after, Parted}
+use Rattle.records.specs.declared.machine.Lent.{Lent}
 
 -- ---- one record
 
 -- Its call and its line.
 pub stepped : {m : Machine} {r : List ℕ} (a : Answer) {send receive bytes notices before after : List ℕ} {at n : ℕ} {kind : ℕ}
     → Gives m r (answered a send receive bytes notices) → kind ≡ kind_of r
-    → Written (line_of kind (reply_number a.reply) (reply_value a.reply) a.interrupts) at before after n × (n ≤ at + line_most)
-    → Steps m r at before (record { saved = a.saved; next = n }) (machine a.saved send receive bytes notices) after
+    → Written (line_of kind (reply_number a.reply) (reply_value a.reply) a.interrupts) at before after n → n ≤ at + line_most
+    → Steps m r at before n (machine a.saved send receive bytes notices) after
 unfolding record_line
-stepped {m} {r} a g k w =
+stepped {m} {r} a g k w short =
     let line : Outcome → List ℕ = λ o. line_of (kind_of r) o.reply o.value o.interrupts in
     let same : line_of (kind_of r) (reply_number a.reply) (reply_value a.reply) a.interrupts ≡ line (outcome_of m r) = ap line g.whole in
-    record { state = ap (λ (o : Outcome). o.machine) g.whole; line = rw (k, same) at w.0; short = w.1 }
+    record { state = ap (λ (o : Outcome). o.machine) g.whole; line = rw (k, same) at w; short = short }
+
+-- ---- the lent memories
+
+-- As they are.
+pub keeps_same : (m : Lent) → Keeps m m
+keeps_same m = record { send = refl; receive = refl; bytes = refl; notices = refl }
+
+-- After one step and the next.
+pub keeps_then : {a b c : Lent} → Keeps a b → Keeps b c → Keeps a c
+keeps_then k l = record { send = l.send ∙ k.send; receive = l.receive ∙ k.receive; bytes = l.bytes ∙ k.bytes; notices = l.notices ∙ k.notices }
 
 -- ---- as many turns as there are bytes are enough
 
@@ -46,32 +56,6 @@ enough (suc n) (suc k) m (x ∷ xs) h g =
     let r : List ℕ = take record_size (x ∷ xs) in
     let on = enough n k (outcome_of m r).machine (drop record_size (x ∷ xs)) (rest x xs n h) (rest x xs k g) in
     (ap (λ (t : List ℕ). record_line r (outcome_of m r) ++ t) on.0, on.1)
-
--- ---- the start of a list
-
--- No more than there is.
-take_min : (n : ℕ) (l : List ℕ) → take (min n (length l)) l ≡ take n l
-take_min n l = side (dec_le n (length l))
-  where
-    side : Dec (n ≤ length l) → take (min n (length l)) l ≡ take n l
-    side (yes h) = let e : min n (length l) ≡ n = omega arith in ap (λ (k : ℕ). take k l) e
-    side (no g) =
-        let e : min n (length l) ≡ length l = omega arith in
-        ap (λ (k : ℕ). take k l) e ∙ take_all (length l) l (omega arith) ∙ sym (take_all n l (omega arith))
-
--- Past its end.
-drop_past : (n : ℕ) (l : List ℕ) → length l ≤ n → drop n l ≡ []
-drop_past zero [] h = refl
-drop_past zero (x ∷ l) h = absurd (omega arith)
-drop_past (suc n) [] h = refl
-drop_past (suc n) (x ∷ l) h = drop_past n l (omega arith)
-
-drop_min : (n : ℕ) (l : List ℕ) → drop (min n (length l)) l ≡ drop n l
-drop_min n l = side (dec_le n (length l))
-  where
-    side : Dec (n ≤ length l) → drop (min n (length l)) l ≡ drop n l
-    side (yes h) = let e : min n (length l) ≡ n = omega arith in ap (λ (k : ℕ). drop k l) e
-    side (no g) = drop_past (min n (length l)) l (omega arith) ∙ sym (drop_past n l (omega arith))
 
 -- ---- a row
 
@@ -111,45 +95,37 @@ begun m input out = record { state = refl; stored = refl; place = omega arith }
 
 module _ {final : Machine} {total before : List ℕ} where
   -- One record less.
-  pub turn : {m m₂ : Machine} {l : List ℕ} {next : ℕ} {out : List ℕ} {t : Progress} {out₂ : List ℕ} → 0 < length l
+  pub turn : {m m₂ : Machine} {l : List ℕ} {next : ℕ} {out : List ℕ} {t : ℕ} {out₂ : List ℕ} → 0 < length l
       → Steps m (take record_size l) next out t m₂ out₂ → Left final total before m l next out
-      → Left final total before m₂ (drop record_size l) t.next out₂
+      → Left final total before m₂ (drop record_size l) t out₂
   turn {m} {m₂} {l} {next} {out} {t} {out₂} some s f =
       let o : Outcome = outcome_of m (take record_size l) in
       let line : List ℕ = record_line (take record_size l) o in
       let others : List ℕ = lines_from (length (drop record_size l)) o.machine (drop record_size l) in
       let all : lines_from (length l) m l ≡ line ++ others = lines_first m l some in
-      let stored : sets out₂ t.next others ≡ sets before 0 total =
+      let stored : sets out₂ t others ≡ sets before 0 total =
       ap₂ (λ (d : List ℕ) (i : ℕ). sets d i others) s.line.buffer s.line.ends
       ∙ sym (sets_append out next line others)
       ∙ ap (sets out next) (sym all)
       ∙ f.stored in
-      let place : t.next + length others ≡ length total = omega (arith, s.line.ends, f.place, ap length all, length-append line others) in
+      let place : t + length others ≡ length total = omega (arith, s.line.ends, f.place, ap length all, length-append line others) in
       rw s.state (record { state = sym (machine_first m l some) ∙ f.state; stored = stored; place = place })
 
-  -- The record that begins at a place of the input.
-  pub onward : {m m₂ : Machine} {next : ℕ} {out : List ℕ} {t : Progress} {out₂ : List ℕ} (input : List ℕ) (at end : ℕ)
-      → at < length input → end ≡ at + min record_size (length input - at)
-      → Steps m (take (end - at) (drop at input)) next out t m₂ out₂ → Left final total before m (drop at input) next out
-      → Left final total before m₂ (drop end input) t.next out₂
-  onward input at end some e s f =
-      let l : List ℕ = drop at input in
-      let long : length l ≡ length input - at = length-drop at input in
-      let k : end - at ≡ min record_size (length l) = omega (arith, e, long) in
-      let first : take (end - at) l ≡ take record_size l = ap (λ (n : ℕ). take n l) k ∙ take_min record_size l in
-      let there : end ≡ at + min record_size (length l) = omega (arith, e, long) in
-      let others : drop end input ≡ drop record_size l =
-      ap (λ (n : ℕ). drop n input) there ∙ sym (drop-drop (min record_size (length l)) at input) ∙ drop_min record_size l in
-      rw others (turn (omega (arith, long)) (rw first at s) f)
+  -- The record that a chunk is.
+  pub onward : {m m₂ : Machine} {l others record₁ : List ℕ} {next : ℕ} {out : List ℕ} {t : ℕ} {out₂ : List ℕ} → 0 < length l
+      → l ≡ record₁ ++ others → length record₁ ≡ min record_size (length l)
+      → Steps m record₁ next out t m₂ out₂ → Left final total before m l next out
+      → Left final total before m₂ others t out₂
+  onward {l = l} {others} {record₁} some cut size s f =
+      let first : record₁ ≡ take record_size l = sym (take-append_seam record₁ others) ∙ (λ i. take (size i) (sym cut i)) ∙ take_min record_size l in
+      let rest : others ≡ drop record_size l = sym (drop-append_seam record₁ others) ∙ (λ i. drop (size i) (sym cut i)) ∙ drop_min record_size l in
+      rw rest (turn some (rw first at s) f)
 
   -- None is left.
-  pub ended : {m : Machine} {next : ℕ} {out : List ℕ} (input : List ℕ) (at : ℕ) → length input ≤ at → Left final total before m (drop at input) next out
-      → (m ≡ final) × Written total 0 before out next
+  pub ended : {m : Machine} {next : ℕ} {out : List ℕ} (l : List ℕ) → length l ≡ 0 → Left final total before m l next out → (m ≡ final) × Written total 0 before out next
   unfolding lines_from machine_after
-  ended input at h f =
-      let none : drop at input ≡ [] = drop_past at input h in
-      let g = rw none at f in
-      (g.state, record { buffer = g.stored; ends = omega (arith, g.place) })
+  ended [] h f = (f.state, record { buffer = f.stored; ends = omega (arith, f.place) })
+  ended (x ∷ l) h f = absurd (omega arith)
 
 -- ---- an input in parts
 

@@ -8,7 +8,18 @@ use Rattle.rules.specs.Replies.{Outcome}
 use Rattle.rules.specs.Calls.{writes, perform}
 use Rattle.rules.specs.Station.{record_size, record_packet, call_of, record_line, lines_from}
 use Rattle.lines.specs.Lines.{Written, line_most}
-use Rattle.records.specs.declared.running.Progress.{Progress}
+use Rattle.records.specs.declared.machine.Lent.{Lent}
+
+-- The machine that is lent.
+abbrev pub machine_of : Lent → Machine
+machine_of m = machine m.saved m.send.now m.receive.now m.bytes.now m.notices.now
+
+-- The memories are the ones that were lent.
+pub record Keeps (m left : Lent) : Type 0 where
+  pub send : left.send.ghost_name ≡ m.send.ghost_name
+  pub receive : left.receive.ghost_name ≡ m.receive.ghost_name
+  pub bytes : left.bytes.ghost_name ≡ m.bytes.ghost_name
+  pub notices : left.notices.ghost_name ≡ m.notices.ghost_name
 
 -- ---- the beginning
 
@@ -34,10 +45,10 @@ pub record Gives (m : Machine) (r : List ℕ) (leaves : List ℕ → Outcome) : 
   pub whole : leaves room ≡ outcome_of m r
 
 -- A record's call was made and its line written.
-pub record Steps (m : Machine) (r : List ℕ) (at : ℕ) (before : List ℕ) (t : Progress) (left : Machine) (after : List ℕ) : Type 0 where
+pub record Steps (m : Machine) (r : List ℕ) (at : ℕ) (before : List ℕ) (next : ℕ) (left : Machine) (after : List ℕ) : Type 0 where
   pub state : left ≡ (outcome_of m r).machine
-  pub line : Written (record_line r (outcome_of m r)) at before after t.next
-  pub short : t.next ≤ at + line_most
+  pub line : Written (record_line r (outcome_of m r)) at before after next
+  pub short : next ≤ at + line_most
 
 -- ---- a row of records
 
@@ -52,10 +63,10 @@ abbrev pub Roomy : List ℕ → List ℕ → Type 0
 Roomy input out = line_most * ((length input + 191) / record_size) ≤ length out
 
 -- The calls of an input were made, and their lines written from the start of a buffer on.
-pub record Runs (m : Machine) (input before : List ℕ) (t : Progress) (send receive bytes notices after : List ℕ) : Type 0 where
-  pub state : machine t.saved send receive bytes notices ≡ machine_after (length input) m input
-  pub lines : Written (lines_from (length input) m input) 0 before after t.next
-  pub inside : t.next ≤ length after
+pub record Runs (m : Machine) (input before : List ℕ) (next : ℕ) (left : Machine) (after : List ℕ) : Type 0 where
+  pub state : left ≡ machine_after (length input) m input
+  pub lines : Written (lines_from (length input) m input) 0 before after next
+  pub inside : next ≤ length after
 
 -- ---- an input in parts
 

@@ -1,13 +1,15 @@
 // A record's kind, and the call that it asks for.
 ghost use Rattle.std.specs.Prelude.{◌≡◌, length};
 ghost use Rattle.rules.specs.Station.{record_size, kind_of};
-ghost use Rattle.laws.specs.Lent.{before, leaves};
-ghost use Rattle.records.specs.Records.{PacketTo, Gives};
+ghost use Rattle.laws.specs.Lent.{leaves};
+ghost use Rattle.records.specs.Records.{machine_of, Keeps, PacketTo, Gives};
 
+use crate::machine::Lent;
+use rules::Answer;
 use rules::sizes::{BLOCK_SIZE, PACKET_MOST, RECORD_SIZE};
-use rules::{Answer, Saved};
 
-// The kind, byte 0. "A torn last record is kind 0, length ignored."
+// The kind, byte 0. "A torn last record is kind 0, length ignored." (A number: a line prints it, known or not.)
+#[tactic(auto, using(crate::proofs::Asked::kind_whole, crate::proofs::Asked::kind_torn))]
 pub(crate) fn kind_of(record: &[u8]) -> u8
     ensures { result ≡ kind_of «record».now }
 {
@@ -19,6 +21,7 @@ pub(crate) fn kind_of(record: &[u8]) -> u8
 }
 
 // Where a whole record's packet ends.
+#[tactic(auto, using(crate::proofs::Asked::packet_to, crate::proofs::Asked::no_packet))]
 fn packet_end(record: &[u8]) -> usize
     requires { length «record».now ≡ record_size }
     ensures { PacketTo «record».now result }
@@ -31,19 +34,18 @@ fn packet_end(record: &[u8]) -> usize
     }
 }
 
-// The call that a whole record asks for.
-fn call_whole(
-    s: Saved,
-    send: &mut [u32],
-    receive: &mut [u32],
-    bytes: &mut [u8],
-    notices: &mut [u32],
-    record: &[u8],
-) -> Answer
+// The call that a whole record asks for. (By the format's numbers: each arm hands over other memories.)
+fn call_whole(m: &mut Lent<'_>, record: &[u8]) -> Answer
     requires { length «record».now ≡ record_size }
-    ensures { Gives (before s send.old receive.old bytes.old notices.old) «record».now
-        (leaves result send.new receive.new bytes.new notices.new) }
+    ensures keeps { Keeps m.old m.new }
+    ensures gives { Gives (machine_of m.old) «record».now
+        (leaves result m.new.send.now m.new.receive.now m.new.bytes.now m.new.notices.now) }
 {
+    let s = m.saved;
+    let send = &mut *m.send;
+    let receive = &mut *m.receive;
+    let bytes = &mut *m.bytes;
+    let notices = &mut *m.notices;
     let first = words::get(record, 4);
     match record[0] {
         1 => engine::write(
@@ -73,20 +75,19 @@ fn call_whole(
 }
 
 // The call that a record asks for; a torn one asks for none that is known.
-pub(crate) fn call(
-    s: Saved,
-    send: &mut [u32],
-    receive: &mut [u32],
-    bytes: &mut [u8],
-    notices: &mut [u32],
-    record: &[u8],
-) -> Answer
-    ensures { Gives (before s send.old receive.old bytes.old notices.old) «record».now
-        (leaves result send.new receive.new bytes.new notices.new) }
+pub(crate) fn call(m: &mut Lent<'_>, record: &[u8]) -> Answer
+    ensures keeps { Keeps m.old m.new }
+    ensures gives { Gives (machine_of m.old) «record».now
+        (leaves result m.new.send.now m.new.receive.now m.new.bytes.now m.new.notices.now) }
 {
     if record.len() == RECORD_SIZE {
-        call_whole(s, send, receive, bytes, notices, record)
+        call_whole(m, record)
     } else {
+        let s = m.saved;
+        let send = &mut *m.send;
+        let receive = &mut *m.receive;
+        let bytes = &mut *m.bytes;
+        let notices = &mut *m.notices;
         engine::unknown(s, send, receive, bytes, notices)
     }
 }

@@ -2,8 +2,10 @@
 #![tactic(auto)]
 
 mod calling;
+mod machine;
 mod opening;
 mod running;
 
+pub use machine::Lent;
 pub use opening::open;
-pub use running::{Progress, in_parts, run};
+pub use running::{in_parts, run};

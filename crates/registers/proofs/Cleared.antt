@@ -1,11 +1,10 @@
 -- What a reset clears, turn by turn. Assumes nothing.
 use mathlib.Core.Path.{◌≡◌, refl, sym, ap, ◌∙◌}
-use mathlib.Core.List.{List, [], ◌∷◌, ◌++◌}
+use mathlib.Core.List.{List, ◌++◌}
 use Prim.Native.Nat.{ℕ, zero, suc, ◌+◌, ◌*◌, ◌<◌, ◌≤◌}
-use native.Mathlib.Numerals.{add-one}
 use native.Mathlib.Omega.{arith}
-use lib.ListN.{length, set, take, drop, replicate, length-set, replicate-append-replicate}
-use lib.Seq.{sets, length-sets, take-suc-set, take_all}
+use lib.ListN.{length, drop, replicate}
+use lib.Seq.{sets, length-sets}
 use Rattle.ground.specs.Lists.{over}
 use Rattle.ground.proofs.Lists.{sets_append, sets_first}
 use Rattle.rules.specs.declared.Saved.{Saved}
@@ -13,34 +12,6 @@ use Rattle.rules.specs.Memory.{descriptor, descriptor_first}
 use Rattle.rules.specs.Saved.{without_reset, reset_saved}
 use Rattle.rules.specs.Writes.{clear_descriptor, clear_descriptors, reset}
 use Rattle.registers.specs.Writing.{Rams, Resets}
-
--- ---- a whole memory
-
--- The first i words are 0.
-pub record Cleared (old new : List ℕ) (i : ℕ) : Type 0 where
-  pub low : i ≤ length new
-  pub size : length new ≡ length old
-  pub zeros : take i new ≡ replicate i 0
-
-pub clear_none : (old : List ℕ) → Cleared old old 0
-clear_none old = record { low = omega arith; size = refl; zeros = refl }
-
-pub clear_more : (old new : List ℕ) (i : ℕ) → i < length new → Cleared old new i → Cleared old (set new i 0) (i + 1)
-clear_more old new i h c =
-    record {
-      low = simp length-set (omega arith);
-      size = length-set new i 0 ∙ c.size;
-      zeros =
-          ap (λ (n : ℕ). take n (set new i 0)) (add-one i)
-          ∙ take-suc-set new i 0 h
-          ∙ ap (λ (l : List ℕ). l ++ (0 ∷ [])) c.zeros
-          ∙ replicate-append-replicate i 1 0;
-    }
-
-pub clear_all : (old new : List ℕ) (i : ℕ) → length new ≤ i → Cleared old new i → new ≡ replicate (length old) 0
-clear_all old new i h c =
-    let e : i ≡ length old = omega (arith, c.low, c.size) in
-    sym (take_all i new h) ∙ c.zeros ∙ ap (λ (n : ℕ). replicate n 0) e
 
 -- ---- the descriptors
 
@@ -82,6 +53,8 @@ unfolding clear_descriptors
 descriptors_all old new d h size c =
     let e : d ≡ 4 = omega (arith, c.low) in
     rw e at c.rest ∙ sets_first clear_descriptors old (omega arith)
+
+pub ruleset clearing = (descriptors_none, descriptors_more, descriptors_all)
 
 -- ---- the reset
 

@@ -10,6 +10,8 @@ use Rattle.rules.specs.Calls.{judge_write}
 use Rattle.laws.specs.Writing.{OfSendStore, OfReceiveStore, OfWrite}
 use Rattle.laws.proofs.Writing.{of_write}
 use Rattle.registers.specs.Writing.{SendHolds, ReceiveHolds, Asks, Writable}
+use Rattle.std.specs.Prelude.{Result, Ok, Err}
+use Rattle.rules.specs.declared.Refusal.{Refusal}
 
 module _ (m : Machine) (v : ℕ) where
   -- A store in Send RAM.
@@ -26,14 +28,14 @@ module _ (m : Machine) (v : ℕ) where
   receive_asked (ReceiveStore.ListToken l) h = h
 
   -- By the verdict.
-  asked : (w : Writing) → OfWrite m v w → Asks w m.saved m.send m.receive
-  asked (Writing.No why) h = tt
-  asked Writing.Reset h = record { send = h.send; receive = h.receive }
-  asked (Writing.Sets n) h = tt
-  asked (Writing.Gives b) h = record { size = h.size; place = h.ring.place; room = h.room }
-  asked (Writing.StoresSend x) h = record { size = h.0; holds = send_asked x h.1 }
-  asked (Writing.StoresReceive x) h = record { size = h.0; holds = receive_asked x h.1 }
+  asked : (w : Result Writing Refusal) → OfWrite m v w → Asks w m.saved m.send m.receive
+  asked (Err why) h = tt
+  asked (Ok Writing.Reset) h = record { send = h.send; receive = h.receive }
+  asked (Ok (Writing.Sets n)) h = tt
+  asked (Ok (Writing.Gives b)) h = record { size = h.size; place = h.ring.place; room = h.room }
+  asked (Ok (Writing.StoresSend x)) h = record { size = h.0; holds = send_asked x h.1 }
+  asked (Ok (Writing.StoresReceive x)) h = record { size = h.0; holds = receive_asked x h.1 }
 
 -- A write can be acted on as it was judged.
-pub writable : (m : Machine) (a v : ℕ) {w : Writing} → judge_write m a v ≡ w → Writable w m.saved m.send m.receive
+pub writable : (m : Machine) (a v : ℕ) {w : Result Writing Refusal} → judge_write m a v ≡ w → Writable w m.saved m.send m.receive
 writable m a v {w} h = record { asks = asked m v w (rw h at (of_write m a v)) }

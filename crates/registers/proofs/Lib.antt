@@ -2,7 +2,7 @@
 pub mod Mapping
 pub mod Showing
 pub mod Judged
-pub mod Stored
+pub mod Slots
 pub mod Cleared
 pub mod Acted
 pub mod Facts

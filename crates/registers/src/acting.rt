@@ -1,28 +1,15 @@
 // A write acted on, by its verdict.
-ghost use Rattle.std.specs.Prelude.{◌≡◌};
-ghost use Rattle.rules.specs.Registers.{decode, stepped};
 ghost use Rattle.registers.specs.Writing.{Writable, Writes};
 
 use crate::{map, reset, storing};
 use notices::push_nbqr;
 use replies::refuse;
-use rules::{Answer, Reply, Saved, Writing};
+use rules::{Answer, Refusal, Saved, Writing};
 
-// A write that was carried out: an incrementing one moves its pointer on.
-fn done(a: u32, s: Saved) -> Answer
-    ensures { result ≡ record { reply = Reply.Done 0; interrupts = 0; saved = stepped (decode a) s } }
-{
-    let saved = map::stepped(map::decode(a), s);
-    Answer {
-        reply: Reply::Done(0),
-        interrupts: 0,
-        saved,
-    }
-}
-
-// A write of v to register number a, by what it was judged to do.
+// A write of v to register number a, by what it was judged to do. (The memories stay apart: `&mut` says which a write may store in.)
+#[tactic(auto, using(crate::proofs::Acted::acting), unfolding(rules::specs::Calls::act_write, rules::specs::Calls::write_done))]
 pub fn act_write(
-    w: Writing,
+    w: Result<Writing, Refusal>,
     s: Saved,
     send: &mut [u32],
     receive: &mut [u32],
@@ -34,27 +21,19 @@ pub fn act_write(
     ensures { Writes w a v s send.old receive.old notices.old result
         send.new receive.new notices.new }
 {
-    match w {
-        Writing::No(why) => refuse(s, why),
-        Writing::Reset => {
-            let saved = reset::reset(v, send, receive, notices);
-            done(a, saved)
-        }
-        Writing::Sets(n) => {
-            let saved = storing::number_set(n, v, s);
-            done(a, saved)
-        }
-        Writing::Gives(b) => {
-            let saved = push_nbqr(b, s, receive);
-            done(a, saved)
-        }
-        Writing::StoresSend(x) => {
+    let saved = match w {
+        Err(why) => return refuse(s, why),
+        Ok(Writing::Reset) => reset::reset(v, send, receive, notices),
+        Ok(Writing::Sets(n)) => storing::number_set(n, v, s),
+        Ok(Writing::Gives(b)) => push_nbqr(b, s, receive),
+        Ok(Writing::StoresSend(x)) => {
             storing::store_send(x, v, send);
-            done(a, s)
+            s
         }
-        Writing::StoresReceive(x) => {
+        Ok(Writing::StoresReceive(x)) => {
             storing::store_receive(x, v, receive);
-            done(a, s)
+            s
         }
-    }
+    };
+    map::done(map::decode(a), 0, saved)
 }

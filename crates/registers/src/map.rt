@@ -1,11 +1,12 @@
 // The map: what a register number means, what an access reaches, and how a pointer moves on.
-ghost use Rattle.std.specs.Prelude.{◌≡◌, ◌/◌};
+ghost use Rattle.std.specs.Prelude.{◌≡◌, ◌<◌, ◌≤◌, ◌/◌};
 ghost use Rattle.rules.specs.Registers as rule;
 
 use rules::sizes::{RECEIVE_SIZE, SEND_SIZE};
-use rules::{Mapped, Reach, Refusal, Register, Saved};
+use rules::{Answer, Mapped, Reach, Refusal, Register, Reply, Saved};
 
 // What a register number means.
+#[tactic(auto, using(ground::proofs::Choice::branches), unfolding(rules::specs::Registers::decode, rules::specs::Registers::mapped, rules::specs::Registers::single, ground::specs::Choice::pick))]
 pub fn decode(a: u32) -> Mapped
     ensures { result ≡ rule.decode a }
 {
@@ -43,48 +44,56 @@ fn paged_word(p: u32, low: u32) -> u32
 }
 
 // What an access reaches.
-pub(crate) fn reach(s: Saved, r: Mapped) -> Reach
+#[tactic(auto, unfolding(rules::specs::Registers::reach))]
+pub(crate) fn reach(s: Saved, r: Mapped) -> Result<Reach, Refusal>
     ensures { result ≡ rule.reach s r }
 {
     match r {
-        Mapped::Single(x) => Reach::Itself(x),
-        Mapped::SendWord => Reach::InSend(s.sendpointer / 4),
-        Mapped::SendStep => Reach::InSend(s.sendpointer / 4),
-        Mapped::ReceiveWord => Reach::InReceive(s.receivepointer / 4),
-        Mapped::ReceiveStep => Reach::InReceive(s.receivepointer / 4),
-        Mapped::DescriptorWord(i) => Reach::InSend(i),
-        Mapped::SendPage(low) => Reach::InSend(paged_word(s.sendpointer, low)),
-        Mapped::ReceivePage(low) => Reach::InReceive(paged_word(s.receivepointer, low)),
-        Mapped::Unmapped => Reach::No(Refusal::NoRegister),
+        Mapped::Single(x) => Ok(Reach::Itself(x)),
+        Mapped::SendWord | Mapped::SendStep => Ok(Reach::InSend(s.sendpointer / 4)),
+        Mapped::ReceiveWord | Mapped::ReceiveStep => Ok(Reach::InReceive(s.receivepointer / 4)),
+        Mapped::DescriptorWord(i) => Ok(Reach::InSend(i)),
+        Mapped::SendPage(low) => Ok(Reach::InSend(paged_word(s.sendpointer, low))),
+        Mapped::ReceivePage(low) => Ok(Reach::InReceive(paged_word(s.receivepointer, low))),
+        Mapped::Unmapped => Err(Refusal::NoRegister),
     }
 }
 
-// A pointer runs over its RAM's bytes.
-const SEND_BYTES: u32 = 4 * SEND_SIZE as u32;
+// The pointer p into a RAM of so many words, moved on by a word: to 0 after the last.
+#[tactic(auto, using(crate::proofs::Mapping::word_on))]
+fn pointer_on(words: u32, p: u32) -> u32
+    requires { (0 < words) × (words ≤ 2048) }
+    ensures { result ≡ rule.pointer_on words p }
+{
+    // The first % is for any pointer's sake: nothing is asked of the saved state here, and no sum may wrap.
+    (p % (4 * words) + 4) % (4 * words)
+}
 
-const RECEIVE_BYTES: u32 = 4 * RECEIVE_SIZE as u32;
-
-// The saved state after an access that is carried out: a step moves its pointer on, to 0 after the last word.
-pub(crate) fn stepped(r: Mapped, s: Saved) -> Saved
+// The saved state after an access that is carried out: a step moves its pointer on.
+#[tactic(auto, unfolding(rules::specs::Registers::stepped))]
+fn stepped(r: Mapped, s: Saved) -> Saved
     ensures { result ≡ rule.stepped r s }
 {
-    let mut saved = s;
-    // The first % is for any pointer's sake: nothing is asked of the saved state here, and no sum may wrap.
     match r {
-        Mapped::Single(_) => s,
-        Mapped::SendWord => s,
-        Mapped::SendStep => {
-            saved.sendpointer = (s.sendpointer % SEND_BYTES + 4) % SEND_BYTES;
-            saved
-        }
-        Mapped::ReceiveWord => s,
-        Mapped::ReceiveStep => {
-            saved.receivepointer = (s.receivepointer % RECEIVE_BYTES + 4) % RECEIVE_BYTES;
-            saved
-        }
-        Mapped::DescriptorWord(_) => s,
-        Mapped::SendPage(_) => s,
-        Mapped::ReceivePage(_) => s,
-        Mapped::Unmapped => s,
+        Mapped::SendStep => Saved {
+            sendpointer: pointer_on(SEND_SIZE as u32, s.sendpointer),
+            ..s
+        },
+        Mapped::ReceiveStep => Saved {
+            receivepointer: pointer_on(RECEIVE_SIZE as u32, s.receivepointer),
+            ..s
+        },
+        _ => s,
+    }
+}
+
+// What an access that was carried out replies; a step has moved its pointer on.
+pub(crate) fn done(r: Mapped, value: u32, s: Saved) -> Answer
+    ensures { result ≡ record { reply = Reply.Done value; interrupts = 0; saved = rule.stepped r s } }
+{
+    Answer {
+        reply: Reply::Done(value),
+        interrupts: 0,
+        saved: stepped(r, s),
     }
 }

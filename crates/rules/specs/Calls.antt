@@ -1,9 +1,9 @@
 -- The five calls and the unknown one: each is judged, refusals in the order of the reply table ("Order as listed"), and then acts. Assumes nothing.
 use Rattle.ground.specs.Choice.{pick, need}
 use Rattle.ground.specs.Lists.{part, over}
-use Rattle.std.specs.Prelude.{ℕ, Bool, not, ◌&&◌, ◌||◌, List, [], eqb, ltb, leb, length, get_or}
+use Rattle.std.specs.Prelude.{ℕ, Option, Some, None, Result, Ok, Err, Bool, not, ◌&&◌, ◌||◌, List, [], eqb, ltb, leb, length, get_or}
 use Rattle.rules.specs.Types.{BlockAddress, DescriptorIndex, Refusal, Sizes, Unsound, NoRegister, BadValue, Off, Short, NoPacket, Empty, Full, Quiet, Stalled, Fabric}
-use Rattle.rules.specs.Types.{Reply, Mapped, Reach, Shown, Writing, Receipt, Receiving, Found, Sending, Taking}
+use Rattle.rules.specs.Types.{Reply, Mapped, Reach, Shown, Writing, Receipt, Receiving, Sending, Taking}
 use Rattle.rules.specs.Memory.{Machine, with_saved, with_send, with_receive, lists, list, block, block_size, block_first, is_block, next_of}
 use Rattle.rules.specs.Saved.{with_last_sender, resets, enables, own_node}
 use Rattle.rules.specs.Queues.{has_room}
@@ -17,33 +17,36 @@ use Rattle.rules.specs.Notices.{place_of, push_nbqr, post_all, take_block}
 use Rattle.rules.specs.Sound.{is_sized, is_sound}
 use Rattle.rules.specs.Replies.{Outcome, outcome, refused}
 
--- The rows sizes and unsound, which stand before every call's own (a write has them with its exception); `refuse` says a refusal in the
--- call's verdict.
-unfoldable pub gate : {A : Type 0} → (Refusal → A) → Machine → A → A
-gate refuse m rest = need (is_sized m) (refuse Sizes) (need (is_sound m) (refuse Unsound) rest)
+-- The rows sizes and unsound, which stand before every call's own (a write has them with its exception).
+unfoldable pub gate : {A : Type 0} → Machine → Result A Refusal → Result A Refusal
+gate m rest = need (is_sized m) (Err Sizes) (need (is_sound m) (Err Unsound) rest)
 
 -- ---- an unknown call
 
--- no-register: "unknown call".
+-- sizes, unsound, no-register: "unknown call".
+unfoldable pub why_unknown : Machine → Refusal
+why_unknown m = need (is_sized m) Sizes (need (is_sound m) Unsound NoRegister)
+
+-- It is nothing but that refusal.
 unfoldable pub unknown_call : Machine → Outcome
-unknown_call m = refused (gate (λ why. why) m NoRegister) m []
+unknown_call m = refused (why_unknown m) m []
 
 -- ---- read
 
 -- sizes, unsound, no-register.
-unfoldable pub judge_read : Machine → Mapped → Reach
-judge_read m r = gate Reach.No m (reach m.saved r)
+unfoldable pub judge_read : Machine → Mapped → Result Reach Refusal
+judge_read m r = gate m (reach m.saved r)
 
 -- The value is "a read's word".
 unfoldable pub read_done : Machine → Mapped → Shown → Outcome
 read_done m r w = outcome (Reply.Done w.word) (silently (with_saved (stepped r w.saved) m)) []
 
 -- By what is reached.
-unfoldable pub act_read : Machine → Mapped → Reach → Outcome
-act_read m r (Reach.No why) = refused why m []
-act_read m r (Reach.Itself x) = read_done m r (shown_itself m.saved m.receive x)
-act_read m r (Reach.InSend i) = read_done m r (shows m.saved (get_or m.send i 0))
-act_read m r (Reach.InReceive i) = read_done m r (shows m.saved (get_or m.receive i 0))
+unfoldable pub act_read : Machine → Mapped → Result Reach Refusal → Outcome
+act_read m r (Err why) = refused why m []
+act_read m r (Ok (Reach.Itself x)) = read_done m r (shown_itself m.saved m.receive x)
+act_read m r (Ok (Reach.InSend i)) = read_done m r (shows m.saved (get_or m.send i 0))
+act_read m r (Ok (Reach.InReceive i)) = read_done m r (shows m.saved (get_or m.receive i 0))
 
 -- A read of register number a.
 unfoldable pub read_call : Machine → ℕ → Outcome
@@ -56,10 +59,10 @@ unfoldable pub is_reset : ℕ → ℕ → Bool
 is_reset a v = eqb a pcsr0_number && resets v
 
 -- sizes; unsound, where "A PCSR0 write with reset skips 14"; then no-register, and what the word takes.
-unfoldable pub judge_write : Machine → ℕ → ℕ → Writing
+unfoldable pub judge_write : Machine → ℕ → ℕ → Result Writing Refusal
 judge_write m a v =
-    need (is_sized m) (Writing.No Sizes)
-    (need (is_reset a v || is_sound m) (Writing.No Unsound)
+    need (is_sized m) (Err Sizes)
+    (need (is_reset a v || is_sound m) (Err Unsound)
     (judge_reached m (reach m.saved (decode a)) v))
 
 -- A write that was carried out.
@@ -67,13 +70,13 @@ unfoldable pub write_done : Mapped → Machine → Outcome
 write_done r m = outcome (Reply.Done 0) (silently (with_saved (stepped r m.saved) m)) []
 
 -- By what it does.
-unfoldable pub act_write : Machine → Mapped → ℕ → Writing → Outcome
-act_write m r v (Writing.No why) = refused why m []
-act_write m r v Writing.Reset = write_done r (reset v m)
-act_write m r v (Writing.Sets n) = write_done r (with_saved (number_set n v m.saved) m)
-act_write m r v (Writing.Gives b) = write_done r (on_board (push_nbqr b) (silently m)).machine
-act_write m r v (Writing.StoresSend w) = write_done r (with_send (send_stored w v m.send) m)
-act_write m r v (Writing.StoresReceive w) = write_done r (with_receive (receive_stored w v m.receive) m)
+unfoldable pub act_write : Machine → Mapped → ℕ → Result Writing Refusal → Outcome
+act_write m r v (Err why) = refused why m []
+act_write m r v (Ok Writing.Reset) = write_done r (reset v m)
+act_write m r v (Ok (Writing.Sets n)) = write_done r (with_saved (number_set n v m.saved) m)
+act_write m r v (Ok (Writing.Gives b)) = write_done r (on_board (push_nbqr b) (silently m)).machine
+act_write m r v (Ok (Writing.StoresSend w)) = write_done r (with_send (send_stored w v m.send) m)
+act_write m r v (Ok (Writing.StoresReceive w)) = write_done r (with_receive (receive_stored w v m.receive) m)
 
 -- A write of v to register number a.
 unfoldable pub write_call : Machine → ℕ → ℕ → Outcome
@@ -86,13 +89,13 @@ abbrev pub receipt : Machine → List ℕ → Receipt
 receipt m packet = receipt_of m.saved m.receive (length m.bytes) packet
 
 -- sizes, unsound, off, no-packet, stalled; then the packet as it is read, and what the table says, a fault too.
-unfoldable pub judge_receive : Machine → List ℕ → Receiving
+unfoldable pub judge_receive : Machine → List ℕ → Result Receiving Refusal
 judge_receive m packet =
-    gate Receiving.No m
-    (need (enables m.saved.pcsr0) (Receiving.No Off)
-    (need (is_packet packet) (Receiving.No NoPacket)
-    (need (has_room_for m.saved m.receive (packet_of packet) (receipt m packet)) (Receiving.No Stalled)
-    (Receiving.ComesTo (packet_of packet) (receipt m packet)))))
+    gate m
+    (need (enables m.saved.pcsr0) (Err Off)
+    (need (is_packet packet) (Err NoPacket)
+    (need (has_room_for m.saved m.receive (packet_of packet) (receipt m packet)) (Err Stalled)
+    (Ok (record { packet = packet_of packet; receipt = receipt m packet })))))
 
 -- fault: "fault notice posted"; the value is "a fault's status".
 abbrev pub receipt_reply : Receipt → Reply
@@ -101,9 +104,9 @@ receipt_reply (Receipt.Acks i v) = Reply.Done 0
 receipt_reply (Receipt.Lands i v) = Reply.Done 0
 
 -- By what it does.
-unfoldable pub act_receive : Machine → List ℕ → Receiving → Outcome
-act_receive m packet (Receiving.No why) = refused why m []
-act_receive m packet (Receiving.ComesTo p r) = outcome (receipt_reply r) (received packet p r m) []
+unfoldable pub act_receive : Machine → List ℕ → Result Receiving Refusal → Outcome
+act_receive m packet (Err why) = refused why m []
+act_receive m packet (Ok v) = outcome (receipt_reply v.receipt) (received packet v.packet v.receipt m) []
 
 -- A receipt of a packet.
 unfoldable pub receive_call : Machine → List ℕ → Outcome
@@ -112,17 +115,17 @@ receive_call m packet = act_receive m packet (judge_receive m packet)
 -- ---- send
 
 -- stalled: "send: none ready"; "fabric not ready".
-unfoldable pub sending_of : Bool → Found → Sending
-sending_of ready Found.Nothing = Sending.No Stalled
-sending_of ready (Found.At d) = pick ready (Sending.Sends d) (Sending.Waits d)
+unfoldable pub sending_of : Bool → Option DescriptorIndex → Result Sending Refusal
+sending_of ready None = Err Stalled
+sending_of ready (Some d) = pick ready (Ok (Sending.Sends d)) (Ok (Sending.Waits d))
 
 -- sizes, unsound, off, short ("packet room below 168 bytes"), quiet ("none active"), stalled, fabric.
-unfoldable pub judge_send : Machine → Bool → ℕ → Sending
+unfoldable pub judge_send : Machine → Bool → ℕ → Result Sending Refusal
 judge_send m ready room =
-    gate Sending.No m
-    (need (enables m.saved.pcsr0) (Sending.No Off)
-    (need (leb packet_most room) (Sending.No Short)
-    (need (not (none_active m.send)) (Sending.No Quiet)
+    gate m
+    (need (enables m.saved.pcsr0) (Err Off)
+    (need (leb packet_most room) (Err Short)
+    (need (not (none_active m.send)) (Err Quiet)
     (sending_of ready (next_sender m.saved m.send m.receive)))))
 
 -- The packet that a descriptor sends now.
@@ -137,10 +140,10 @@ sent i m =
     on_board (post_all (send_posting d)) (silently moved)
 
 -- By what it does: the value is "a sent length"; "Bytes past a sent packet stay"; fabric: "stalled set on the chosen descriptor, no more".
-unfoldable pub act_send : Machine → List ℕ → Sending → Outcome
-act_send m room (Sending.No why) = refused why m room
-act_send m room (Sending.Sends i) = outcome (Reply.Done (length (packet_from m i))) (sent i m) (over (packet_from m i) room)
-act_send m room (Sending.Waits i) = refused Fabric (with_send (mark_stalled m.send i) m) room
+unfoldable pub act_send : Machine → List ℕ → Result Sending Refusal → Outcome
+act_send m room (Err why) = refused why m room
+act_send m room (Ok (Sending.Sends i)) = outcome (Reply.Done (length (packet_from m i))) (sent i m) (over (packet_from m i) room)
+act_send m room (Ok (Sending.Waits i)) = refused Fabric (with_send (mark_stalled m.send i) m) room
 
 -- A send, with the fabric ready or not, into a packet room.
 unfoldable pub send_call : Machine → Bool → List ℕ → Outcome
@@ -150,28 +153,31 @@ send_call m ready room = act_send m room (judge_send m ready (length room))
 
 -- sizes, unsound, bad-value ("list 64 or more"), short ("notice room below 8 words"), empty ("place 0 or next 0"), full; "A take whose next is
 -- neither 0 nor a block address is 14 in place of full."
-unfoldable pub judge_take : Machine → ℕ → ℕ → Taking
+unfoldable pub judge_take : Machine → ℕ → ℕ → Result Taking Refusal
 judge_take m l room =
-    gate Taking.No m
-    (need (ltb l lists) (Taking.No BadValue)
-    (need (leb block_size room) (Taking.No Short)
+    gate m
+    (need (ltb l lists) (Err BadValue)
+    (need (leb block_size room) (Err Short)
     (let place = place_of m.receive (list l) in
-    need (not (eqb place 0)) (Taking.No Empty)
+    need (not (eqb place 0)) (Err Empty)
     (let next = next_of m.notices (block place) in
-    need (not (eqb next 0)) (Taking.No Empty)
-    (need (is_block (length m.notices) next) (Taking.No Unsound)
-    (need (has_room m.saved.nbqr) (Taking.No Full)
-    (Taking.Takes (list l) (block place) (block next))))))))
+    need (not (eqb next 0)) (Err Empty)
+    (need (is_block (length m.notices) next) (Err Unsound)
+    (need (has_room m.saved.nbqr) (Err Full)
+    (Ok (record { list = list l; block = block place; next = block next }))))))))
 
 -- The eight words of a block.
 abbrev pub words_of : List ℕ → BlockAddress → List ℕ
 words_of notices b = part (block_first b) block_size notices
 
 -- By what it does: "copies the reader's block to 8 lent words"; the value is "a taken word 0".
-unfoldable pub act_take : Machine → List ℕ → Taking → Outcome
-act_take m room (Taking.No why) = refused why m room
-act_take m room (Taking.Takes l b next) =
-    outcome (Reply.Done (get_or m.notices (block_first b) 0)) (on_board (take_block l b next) (silently m)) (over (words_of m.notices b) room)
+unfoldable pub act_take : Machine → List ℕ → Result Taking Refusal → Outcome
+act_take m room (Err why) = refused why m room
+act_take m room (Ok t) =
+    outcome
+    (Reply.Done (get_or m.notices (block_first t.block) 0))
+    (on_board (take_block t.list t.block t.next) (silently m))
+    (over (words_of m.notices t.block) room)
 
 -- A take from the list with number l, into a notice room.
 unfoldable pub take_call : Machine → ℕ → List ℕ → Outcome

@@ -1,7 +1,7 @@
 -- "Notices and interrupts": what a notice says, when it can be posted, the one posting, and the take. Assumes nothing.
 use Rattle.ground.specs.Choice.{pick}
 use Rattle.ground.specs.Field.{field, flag, bit}
-use Rattle.std.specs.Prelude.{ℕ, ◌+◌, ◌*◌, ◌^◌, Bool, true, not, ◌&&◌, ◌||◌, List, ◌∷◌, eqb, get_or, set}
+use Rattle.std.specs.Prelude.{ℕ, Option, Some, None, ◌+◌, ◌*◌, ◌^◌, Bool, true, not, ◌&&◌, ◌||◌, List, ◌∷◌, eqb, get_or, set}
 use Rattle.std.proofs.lemmas.List.Edits.{sets}
 use Rattle.rules.specs.Types.{Queue, Saved, SlotIndex, ListIndex, BlockAddress, Metadata, Notice, Posting}
 use Rattle.rules.specs.Words.{slot_and_source}
@@ -124,15 +124,23 @@ enqueue_token w b = pick (enqueues w) (push_nqr (token w) b) b
 unfoldable pub post : ListIndex → Notice → Board → Board
 post l n b = enqueue_token (token_of b.receive l) (fill_head l n b)
 
+-- A notice to post on a list.
+abbrev pub posting : ListIndex → Notice → Posting
+posting l n = record { list = l; notice = n }
+
+-- A call has it to post.
+abbrev pub posts_on : ListIndex → Notice → Option Posting
+posts_on l n = Some (posting l n)
+
 -- What a call has to post can be posted.
-unfoldable pub can_post_all : Saved → List ℕ → Posting → Bool
-can_post_all s receive Posting.Silent = true
-can_post_all s receive (Posting.On l n) = can_post s receive l
+unfoldable pub can_post_all : Saved → List ℕ → Option Posting → Bool
+can_post_all s receive None = true
+can_post_all s receive (Some p) = can_post s receive p.list
 
 -- What a call has to post is posted.
-unfoldable pub post_all : Posting → Board → Board
-post_all Posting.Silent b = b
-post_all (Posting.On l n) b = post l n b
+unfoldable pub post_all : Option Posting → Board → Board
+post_all None b = b
+post_all (Some p) b = post p.list p.notice b
 
 -- ---- the take
 

@@ -2,7 +2,7 @@
 -- Assumes nothing.
 use Rattle.ground.specs.Choice.{pick, need}
 use Rattle.ground.specs.Signed.{signed, unsigned, is_zero}
-use Rattle.std.specs.Prelude.{ℕ, ◌+◌, ◌^◌, Bool, true, false, not, ◌&&◌, ◌||◌, List, eqb, ltb, leb, ℤ, pos, ◌+ℤ◌, ◌-ℤ◌}
+use Rattle.std.specs.Prelude.{ℕ, Option, None, ◌+◌, ◌^◌, Bool, true, false, not, ◌&&◌, ◌||◌, List, eqb, ltb, leb, ℤ, pos, ◌+ℤ◌, ◌-ℤ◌}
 use Rattle.std.proofs.lemmas.List.Edits.{sets}
 use Rattle.rules.specs.Types.{Saved, SlotIndex, Slot, Header, Packet, Notice, Posting, Receipt}
 use Rattle.rules.specs.Types.{Fault, HeaderCheck, Fields, Node, SlotAboveCount, SlotNotValid, Incarnation, OffsetAbove, Beyond, BodyCheck}
@@ -11,7 +11,7 @@ use Rattle.rules.specs.Memory.{Machine, with_bytes, slot, list, no_metadata}
 use Rattle.rules.specs.Saved.{with_counts, own_incarnation, own_node, counted}
 use Rattle.rules.specs.Queues.{has_room}
 use Rattle.rules.specs.Board.{Board, Effect, silently, on_board, on_saved, on_receive}
-use Rattle.rules.specs.Notices.{message, fault, fault_list, push_aqr, can_post_all, post_all}
+use Rattle.rules.specs.Notices.{message, fault, fault_list, push_aqr, posts_on, can_post_all, post_all}
 use Rattle.rules.specs.Slots.{slot_at, store_slot, with_message, slot_note_index, does_acks, slot_notifies, ack_note_index, within24, slot_ok}
 use Rattle.rules.specs.Packet.{payload_of, packet_of, header_checks, fields_ok, body_checks}
 
@@ -99,13 +99,13 @@ unfoldable pub fault_notice : Header → Fault → Notice
 fault_notice h f = fault (dst_slot h.address1) (fault_status f) (dst_node h.address0) (src_node h.address1)
 
 -- What a receipt posts: a fault's notice; "ack: notice to ack_note_index"; at completion "notify posts".
-unfoldable pub receipt_posting : Packet → Receipt → Posting
-receipt_posting p (Receipt.Fails f) = Posting.On fault_list (fault_notice p.header f)
-receipt_posting p (Receipt.Acks i v) = Posting.On (list (ack_note_index v.acknote)) (ack_notice i p.header)
+unfoldable pub receipt_posting : Packet → Receipt → Option Posting
+receipt_posting p (Receipt.Fails f) = posts_on fault_list (fault_notice p.header f)
+receipt_posting p (Receipt.Acks i v) = posts_on (list (ack_note_index v.acknote)) (ack_notice i p.header)
 receipt_posting p (Receipt.Lands i v) =
     pick (completes p v && slot_notifies v.noteandflags)
-    (Posting.On (list (slot_note_index v.noteandflags)) (message_notice i p.header (landed p v)))
-    Posting.Silent
+    (posts_on (list (slot_note_index v.noteandflags)) (message_notice i p.header (landed p v)))
+    None
 
 -- "Then do_acks puts slot plus 2^31 on AQR (H)": whether a receipt does.
 unfoldable pub needs_aqr : Packet → Receipt → Bool

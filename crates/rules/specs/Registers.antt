@@ -1,8 +1,8 @@
 -- "Registers": the map, what an access reaches, PCSR1, and what a read shows. Assumes nothing.
 use Rattle.ground.specs.Choice.{pick}
 use Rattle.ground.specs.Field.{bit, flag}
-use Rattle.std.specs.Prelude.{ℕ, ◌+◌, ◌-◌, ◌*◌, ◌/◌, ◌%◌, ◌^◌, Bool, not, ◌&&◌, List, eqb, ltb, leb}
-use Rattle.rules.specs.Types.{Saved, NoRegister, Register, Mapped, Reach, Shown}
+use Rattle.std.specs.Prelude.{ℕ, Result, Ok, Err, ◌+◌, ◌-◌, ◌*◌, ◌/◌, ◌%◌, ◌^◌, Bool, not, ◌&&◌, List, eqb, ltb, leb}
+use Rattle.rules.specs.Types.{Saved, Refusal, NoRegister, Register, Mapped, Reach, Shown}
 use Rattle.rules.specs.Memory.{send_size, receive_size, nqr_from, aqr_from}
 use Rattle.rules.specs.Saved.{with_pointers, with_nqr, with_aqr}
 use Rattle.rules.specs.Queues.{is_empty, has_room, oldest, removed}
@@ -65,16 +65,16 @@ abbrev pub paged : ℕ → ℕ → ℕ
 paged p low = p / 256 * 256 + low
 
 -- What an access reaches. A RAM word is the same by every address, and so "keeps its rules by every address".
-unfoldable pub reach : Saved → Mapped → Reach
-reach s (Mapped.Single r) = Reach.Itself r
-reach s Mapped.SendWord = Reach.InSend (s.sendpointer / 4)
-reach s Mapped.SendStep = Reach.InSend (s.sendpointer / 4)
-reach s Mapped.ReceiveWord = Reach.InReceive (s.receivepointer / 4)
-reach s Mapped.ReceiveStep = Reach.InReceive (s.receivepointer / 4)
-reach s (Mapped.DescriptorWord i) = Reach.InSend i
-reach s (Mapped.SendPage low) = Reach.InSend (paged s.sendpointer low / 4)
-reach s (Mapped.ReceivePage low) = Reach.InReceive (paged s.receivepointer low / 4)
-reach s Mapped.Unmapped = Reach.No NoRegister
+unfoldable pub reach : Saved → Mapped → Result Reach Refusal
+reach s (Mapped.Single r) = Ok (Reach.Itself r)
+reach s Mapped.SendWord = Ok (Reach.InSend (s.sendpointer / 4))
+reach s Mapped.SendStep = Ok (Reach.InSend (s.sendpointer / 4))
+reach s Mapped.ReceiveWord = Ok (Reach.InReceive (s.receivepointer / 4))
+reach s Mapped.ReceiveStep = Ok (Reach.InReceive (s.receivepointer / 4))
+reach s (Mapped.DescriptorWord i) = Ok (Reach.InSend i)
+reach s (Mapped.SendPage low) = Ok (Reach.InSend (paged s.sendpointer low / 4))
+reach s (Mapped.ReceivePage low) = Ok (Reach.InReceive (paged s.receivepointer low / 4))
+reach s Mapped.Unmapped = Err NoRegister
 
 -- "word then pointer plus 4": the saved state after an access that is carried out.
 unfoldable pub stepped : Mapped → Saved → Saved

@@ -3,13 +3,13 @@ use Rattle.ground.specs.Bytes.{to_bytes}
 use Rattle.ground.specs.Choice.{pick, all_below}
 use Rattle.ground.specs.Field.{field, flag, without, with_field}
 use Rattle.ground.specs.Lists.{part}
-use Rattle.std.specs.Prelude.{ℕ, zero, suc, ◌+◌, ◌-◌, ◌/◌, ◌%◌, min, Bool, not, ◌&&◌, ◌||◌, List, [], ◌∷◌, eqb, ltb, leb, get_or, set}
+use Rattle.std.specs.Prelude.{ℕ, Option, Some, None, zero, suc, ◌+◌, ◌-◌, ◌/◌, ◌%◌, min, Bool, not, ◌&&◌, ◌||◌, List, [], ◌∷◌, eqb, ltb, leb, get_or, set}
 use Rattle.std.proofs.lemmas.List.Edits.{sets}
-use Rattle.rules.specs.Types.{Saved, DescriptorIndex, Descriptor, Header, Posting, Found}
+use Rattle.rules.specs.Types.{Saved, DescriptorIndex, Descriptor, Header, Posting}
 use Rattle.rules.specs.Words.{most24, note_index, dst_slot, slot_and_source, is_ack_pkt, reserved_bit, offset, is_direct_io, is_control_pkt, notifies, goes, meta_flag, msg_size, meta_ok}
 use Rattle.rules.specs.Memory.{descriptors, descriptor, descriptor_first, descriptor_word, direct_from, direct_to, lists, list, metadata_at}
 use Rattle.rules.specs.Packet.{payload_most, form}
-use Rattle.rules.specs.Notices.{zero_notice, can_post_all}
+use Rattle.rules.specs.Notices.{zero_notice, posts_on, can_post_all}
 
 -- ---- a descriptor's words
 
@@ -119,22 +119,22 @@ unfoldable pub is_last : Descriptor → Bool
 is_last d = is_control_pkt d.control1 || leb d.bytestogo payload_most
 
 -- "with notify a zero notice is posted to note_index": what the next packet posts.
-unfoldable pub send_posting : Descriptor → Posting
-send_posting d = pick (is_last d && notifies d.control1) (Posting.On (list (note_index d.address1)) zero_notice) Posting.Silent
+unfoldable pub send_posting : Descriptor → Option Posting
+send_posting d = pick (is_last d && notifies d.control1) (posts_on (list (note_index d.address1)) zero_notice) None
 
 -- "A descriptor is ready if active and any notice its next packet would post can be posted."
 unfoldable pub is_ready : Saved → List ℕ → Descriptor → Bool
 is_ready s receive d = is_active d && can_post_all s receive (send_posting d)
 
 -- Of n places from place k after the last sender on, going round: the first that passes the test.
-unfoldable pub first_from : (DescriptorIndex → Bool) → ℕ → ℕ → ℕ → Found
-first_from test last k zero = Found.Nothing
+unfoldable pub first_from : (DescriptorIndex → Bool) → ℕ → ℕ → ℕ → Option DescriptorIndex
+first_from test last k zero = None
 first_from test last k (suc n) =
     let d = descriptor ((last + 1 + k) % descriptors) in
-    pick (test d) (Found.At d) (first_from test last (k + 1) n)
+    pick (test d) (Some d) (first_from test last (k + 1) n)
 
 -- "Starting after the last sender and going round, the first ready descriptor met in that order sends."
-unfoldable pub next_sender : Saved → List ℕ → List ℕ → Found
+unfoldable pub next_sender : Saved → List ℕ → List ℕ → Option DescriptorIndex
 next_sender s send receive = first_from (λ d. is_ready s receive (descriptor_at send d)) s.lastsender 0 descriptors
 
 -- quiet: "none active".

@@ -1,6 +1,7 @@
 -- The types of src/lib.rt, passed on under one name. Assumes nothing.
 pub use Rattle.rules.specs.declared.Queue.{Queue}
 pub use Rattle.rules.specs.declared.Saved.{Saved}
+pub use Rattle.rules.specs.declared.Seen.{Seen}
 pub use Rattle.rules.specs.declared.SlotIndex.{SlotIndex}
 pub use Rattle.rules.specs.declared.ListIndex.{ListIndex}
 pub use Rattle.rules.specs.declared.BlockAddress.{BlockAddress}
@@ -30,7 +31,5 @@ pub use Rattle.rules.specs.declared.Fault.{Fault}
 pub use Rattle.rules.specs.declared.Fault.TheVariants.{HeaderCheck, Fields, Node, SlotAboveCount, SlotNotValid, Incarnation, OffsetAbove, Beyond, BodyCheck}
 pub use Rattle.rules.specs.declared.Receipt.{Receipt}
 pub use Rattle.rules.specs.declared.Receiving.{Receiving}
-pub use Rattle.rules.specs.declared.Found.{Found}
 pub use Rattle.rules.specs.declared.Sending.{Sending}
 pub use Rattle.rules.specs.declared.Taking.{Taking}
-pub use Rattle.rules.specs.declared.Verdict.{Verdict}

@@ -1,9 +1,9 @@
 -- "Registers", writes: what each word takes, and what a write that is carried out stores. Assumes nothing.
 use Rattle.ground.specs.Choice.{pick, need}
 use Rattle.ground.specs.Lists.{over}
-use Rattle.std.specs.Prelude.{ℕ, Bool, not, ◌&&◌, ◌||◌, List, [], ◌∷◌, ◌++◌, eqb, leb, length, set, replicate}
+use Rattle.std.specs.Prelude.{ℕ, Result, Ok, Err, Bool, not, ◌&&◌, ◌||◌, List, [], ◌∷◌, ◌++◌, eqb, leb, length, set, replicate}
 use Rattle.std.proofs.lemmas.List.Edits.{sets}
-use Rattle.rules.specs.Types.{Saved, ReadOnly, Active, BadValue, Full, Register, Reach, SendPart, ReceivePart, Number, SendStore, ReceiveStore, Writing}
+use Rattle.rules.specs.Types.{Saved, Refusal, ReadOnly, Active, BadValue, Full, Register, Reach, SendPart, ReceivePart, Number, SendStore, ReceiveStore, Writing}
 use Rattle.rules.specs.Words.{goes, msg_size}
 use Rattle.rules.specs.Memory.{Machine, machine, send_size, receive_size, slots_most, block, descriptor_word, slot_word, head_word, token_word, place_word, send_part, receive_part, is_free_block}
 use Rattle.rules.specs.Saved.{with_pcsr0, with_bits, with_slots, with_pointers, resets, pcsr0_ok, without_reset, reset_saved}
@@ -32,51 +32,51 @@ stops k v = eqb k control1_word && not (goes v)
 
 -- A word of Send RAM: "Writes to an active descriptor answer active, except control1 with go 0"; "A control1 write with go 1 needs" the go
 -- rule of its msg_size. A word of DIO takes any value.
-unfoldable pub judge_send_word : List ℕ → ℕ → SendPart → ℕ → Writing
-judge_send_word send data_length (SendPart.Direct i) v = Writing.StoresSend (SendStore.DirectWord i)
+unfoldable pub judge_send_word : List ℕ → ℕ → SendPart → ℕ → Result Writing Refusal
+judge_send_word send data_length (SendPart.Direct i) v = Ok (Writing.StoresSend (SendStore.DirectWord i))
 judge_send_word send data_length (SendPart.OfDescriptor i k) v =
     let d = descriptor_at send i in
-    need (not (descriptor_word_fixed k)) (Writing.No ReadOnly)
-    (need (not (is_active d) || stops k v) (Writing.No Active)
-    (need (not (starts k v) || go_rule d v (msg_size v) data_length) (Writing.No BadValue)
-    (Writing.StoresSend (pick (starts k v) (SendStore.Start i) (SendStore.Word i k)))))
+    need (not (descriptor_word_fixed k)) (Err ReadOnly)
+    (need (not (is_active d) || stops k v) (Err Active)
+    (need (not (starts k v) || go_rule d v (msg_size v) data_length) (Err BadValue)
+    (Ok (Writing.StoresSend (pick (starts k v) (SendStore.Start i) (SendStore.Word i k))))))
 
 -- A word of Receive RAM: read-only are also "queues, reader's places and the rest; a head that is not 0. A head otherwise takes what NBQR
 -- takes"; "A token word with enqueue 1 and token 0 is a bad value (H)."
-unfoldable pub judge_receive_word : List ℕ → List ℕ → ReceivePart → ℕ → Writing
+unfoldable pub judge_receive_word : List ℕ → List ℕ → ReceivePart → ℕ → Result Writing Refusal
 judge_receive_word receive notices (ReceivePart.OfSlot i k) v =
-    need (not (slot_word_fixed k)) (Writing.No ReadOnly)
-    (Writing.StoresReceive (pick (eqb k 2) (ReceiveStore.SlotWord2 i) (ReceiveStore.SlotWord i k)))
+    need (not (slot_word_fixed k)) (Err ReadOnly)
+    (Ok (Writing.StoresReceive (pick (eqb k 2) (ReceiveStore.SlotWord2 i) (ReceiveStore.SlotWord i k))))
 judge_receive_word receive notices (ReceivePart.Head l) v =
-    need (eqb (head_of receive l) 0) (Writing.No ReadOnly)
-    (need (is_free_block notices v) (Writing.No BadValue)
-    (Writing.StoresReceive (ReceiveStore.FirstBlock l (block v))))
+    need (eqb (head_of receive l) 0) (Err ReadOnly)
+    (need (is_free_block notices v) (Err BadValue)
+    (Ok (Writing.StoresReceive (ReceiveStore.FirstBlock l (block v)))))
 judge_receive_word receive notices (ReceivePart.Token l) v =
-    need (not (enqueues v && eqb (token v) 0)) (Writing.No BadValue) (Writing.StoresReceive (ReceiveStore.ListToken l))
-judge_receive_word receive notices ReceivePart.Fixed v = Writing.No ReadOnly
+    need (not (enqueues v && eqb (token v) 0)) (Err BadValue) (Ok (Writing.StoresReceive (ReceiveStore.ListToken l)))
+judge_receive_word receive notices ReceivePart.Fixed v = Err ReadOnly
 
 -- A register itself: "Read-only: NLHR, NQR, AQR, both counts"; "slot count 0 to 64"; "NBQR takes a block address whose next word is 0;
 -- anything else is a bad value"; full: "NBQR write .. with 256 waiting".
-unfoldable pub judge_register : Saved → List ℕ → Register → ℕ → Writing
-judge_register s notices Register.Pcsr0 v = need (pcsr0_ok v) (Writing.No BadValue) (pick (resets v) Writing.Reset (Writing.Sets Number.Pcsr0))
-judge_register s notices Register.Pcsr1 v = Writing.Sets Number.InterruptBits
-judge_register s notices Register.Nlhr v = Writing.No ReadOnly
-judge_register s notices Register.SlotCount v = need (leb v slots_most) (Writing.No BadValue) (Writing.Sets Number.SlotCount)
-judge_register s notices Register.Nqr v = Writing.No ReadOnly
-judge_register s notices Register.Aqr v = Writing.No ReadOnly
+unfoldable pub judge_register : Saved → List ℕ → Register → ℕ → Result Writing Refusal
+judge_register s notices Register.Pcsr0 v = need (pcsr0_ok v) (Err BadValue) (pick (resets v) (Ok Writing.Reset) (Ok (Writing.Sets Number.Pcsr0)))
+judge_register s notices Register.Pcsr1 v = Ok (Writing.Sets Number.InterruptBits)
+judge_register s notices Register.Nlhr v = Err ReadOnly
+judge_register s notices Register.SlotCount v = need (leb v slots_most) (Err BadValue) (Ok (Writing.Sets Number.SlotCount))
+judge_register s notices Register.Nqr v = Err ReadOnly
+judge_register s notices Register.Aqr v = Err ReadOnly
 judge_register s notices Register.Nbqr v =
-    need (is_free_block notices v) (Writing.No BadValue) (need (has_room s.nbqr) (Writing.No Full) (Writing.Gives (block v)))
-judge_register s notices Register.Taken v = Writing.No ReadOnly
-judge_register s notices Register.Faulted v = Writing.No ReadOnly
-judge_register s notices Register.SendPointer v = need (pointer_ok send_size v) (Writing.No BadValue) (Writing.Sets Number.SendPointer)
-judge_register s notices Register.ReceivePointer v = need (pointer_ok receive_size v) (Writing.No BadValue) (Writing.Sets Number.ReceivePointer)
+    need (is_free_block notices v) (Err BadValue) (need (has_room s.nbqr) (Err Full) (Ok (Writing.Gives (block v))))
+judge_register s notices Register.Taken v = Err ReadOnly
+judge_register s notices Register.Faulted v = Err ReadOnly
+judge_register s notices Register.SendPointer v = need (pointer_ok send_size v) (Err BadValue) (Ok (Writing.Sets Number.SendPointer))
+judge_register s notices Register.ReceivePointer v = need (pointer_ok receive_size v) (Err BadValue) (Ok (Writing.Sets Number.ReceivePointer))
 
 -- A write, by what it reaches.
-unfoldable pub judge_reached : Machine → Reach → ℕ → Writing
-judge_reached m (Reach.No why) v = Writing.No why
-judge_reached m (Reach.Itself r) v = judge_register m.saved m.notices r v
-judge_reached m (Reach.InSend i) v = judge_send_word m.send (length m.bytes) (send_part i) v
-judge_reached m (Reach.InReceive i) v = judge_receive_word m.receive m.notices (receive_part i) v
+unfoldable pub judge_reached : Machine → Result Reach Refusal → ℕ → Result Writing Refusal
+judge_reached m (Err why) v = Err why
+judge_reached m (Ok (Reach.Itself r)) v = judge_register m.saved m.notices r v
+judge_reached m (Ok (Reach.InSend i)) v = judge_send_word m.send (length m.bytes) (send_part i) v
+judge_reached m (Ok (Reach.InReceive i)) v = judge_receive_word m.receive m.notices (receive_part i) v
 
 -- ---- what a write stores
 

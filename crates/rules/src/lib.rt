@@ -1,6 +1,7 @@
 // The types of the engine, by value. What document 01 says of them stands in specs/, as definitions.
 #![tactic(auto)]
 
+mod numbers;
 mod queues;
 pub mod sizes;
 
@@ -9,14 +10,14 @@ pub use queues::Removal;
 // ---- the saved state
 
 // A queue of 256 words of Receive RAM: the place of its oldest entry, and how many entries wait.
-#[derive(Clone, Copy)]
+#[derive(Clone, Copy, Default)]
 pub struct Queue {
     pub place: u32,
     pub length: u32,
 }
 
 // Fifteen numbers, any value: registers, the two interrupt bits, three queues, the last sender.
-#[derive(Clone, Copy)]
+#[derive(Clone, Copy, Default)]
 pub struct Saved {
     pub pcsr0: u32,
     pub inthi: u32,
@@ -30,6 +31,16 @@ pub struct Saved {
     pub aqr: Queue,
     pub nbqr: Queue,
     pub lastsender: u32,
+}
+
+// A machine as a judgement sees it: the saved state, and the four memories lent for reading.
+#[derive(Clone, Copy)]
+pub struct Seen<'a> {
+    pub saved: Saved,
+    pub send: &'a [u32],
+    pub receive: &'a [u32],
+    pub bytes: &'a [u8],
+    pub notices: &'a [u32],
 }
 
 // ---- what names a thing: a value of one kind never stands for another
@@ -53,7 +64,7 @@ pub struct DescriptorIndex(pub u32);
 // ---- descriptors, slots, packets, notices
 
 // Four metadata words.
-#[derive(Clone, Copy)]
+#[derive(Clone, Copy, Default)]
 pub struct Metadata {
     pub a: u32,
     pub b: u32,
@@ -113,7 +124,7 @@ pub struct Packet {
 }
 
 // A notice: the words of its block without the next.
-#[derive(Clone, Copy)]
+#[derive(Clone, Copy, Default)]
 pub struct Notice {
     pub word0: u32,
     pub word1: u32,
@@ -121,32 +132,32 @@ pub struct Notice {
     pub metadata: Metadata,
 }
 
-// What a call has to post: nothing, or a notice on a list.
+// What a call has to post, if anything: a notice on a list.
 #[derive(Clone, Copy)]
-pub enum Posting {
-    Silent,
-    On(ListIndex, Notice),
+pub struct Posting {
+    pub list: ListIndex,
+    pub notice: Notice,
 }
 
 // ---- replies
 
-// Why a call is refused, in the order of the reply table.
+// Why a call is refused, in the order of the reply table, with the table's numbers.
 #[derive(Clone, Copy)]
 pub enum Refusal {
-    Sizes,
-    Unsound,
-    NoRegister,
-    ReadOnly,
-    Active,
-    BadValue,
-    Off,
-    Short,
-    NoPacket,
-    Empty,
-    Full,
-    Quiet,
-    Stalled,
-    Fabric,
+    Sizes = 13,
+    Unsound = 14,
+    NoRegister = 2,
+    ReadOnly = 3,
+    Active = 5,
+    BadValue = 4,
+    Off = 1,
+    Short = 10,
+    NoPacket = 7,
+    Empty = 12,
+    Full = 6,
+    Quiet = 11,
+    Stalled = 8,
+    Fabric = 15,
 }
 
 // What a call replies: done with a value, a fault with its status, or a refusal.
@@ -184,7 +195,7 @@ pub enum Register {
 }
 
 // What a register number means: a register itself, the word at a pointer (a step moves the pointer on), a descriptor word by its
-// number in Send RAM, a page's low byte, or nothing.
+// number in Send RAM, a page's low byte, or nothing. No Option: all nine are what the one map says, and are matched at once.
 #[derive(Clone, Copy)]
 pub enum Mapped {
     Single(Register),
@@ -198,10 +209,9 @@ pub enum Mapped {
     Unmapped,
 }
 
-// What an access reaches: a register itself, or a word of a RAM by its number; or why it is refused.
+// What an access reaches, where it is not refused: a register itself, or a word of a RAM by its number.
 #[derive(Clone, Copy)]
 pub enum Reach {
-    No(Refusal),
     Itself(Register),
     InSend(u32),
     InReceive(u32),
@@ -230,7 +240,7 @@ pub enum ReceivePart {
     Fixed,
 }
 
-// ---- the verdicts: what a call will do, once it is judged, or why it is refused
+// ---- the verdicts: what a call will do, once it is judged and not refused
 
 // A number of the saved state that a write stores.
 #[derive(Clone, Copy)]
@@ -262,7 +272,6 @@ pub enum ReceiveStore {
 // What a write does: a reset, a number of the saved state set, a block handed to NBQR, a word of Send RAM or of Receive RAM stored.
 #[derive(Clone, Copy)]
 pub enum Writing {
-    No(Refusal),
     Reset,
     Sets(Number),
     Gives(BlockAddress),
@@ -270,21 +279,22 @@ pub enum Writing {
     StoresReceive(ReceiveStore),
 }
 
-// Why a packet fails: the steps of receipt by their status, in the table's order; bytes_to_go beyond its range has the payload's.
+// Why a packet fails: the steps of receipt, each with its status, in the table's order; bytes_to_go beyond its range has the payload's.
 #[derive(Clone, Copy)]
 pub enum Fault {
-    HeaderCheck,
-    Fields,
-    Node,
-    SlotAboveCount,
-    SlotNotValid,
-    Incarnation,
-    OffsetAbove,
-    Beyond,
-    BodyCheck,
+    HeaderCheck = 0x0400,
+    Fields = 0x0080,
+    Node = 0x2000,
+    SlotAboveCount = 0x4000,
+    SlotNotValid = 0x8000,
+    Incarnation = 0x0100,
+    OffsetAbove = 0x1000,
+    Beyond = 0x0800,
+    BodyCheck = 0x0200,
 }
 
 // What a packet comes to by the steps of receipt: a fault; an ack for a slot, or data that lands in one, with the slot as it was judged.
+// No Result: a fault is no error that stops a call, it is counted, posted and answered as the other two are.
 #[derive(Clone, Copy)]
 pub enum Receipt {
     Fails(Fault),
@@ -294,36 +304,22 @@ pub enum Receipt {
 
 // What a receive does: the packet as it was read, and what it comes to, a fault too.
 #[derive(Clone, Copy)]
-pub enum Receiving {
-    No(Refusal),
-    ComesTo(Packet, Receipt),
-}
-
-// The first ready descriptor, or none.
-#[derive(Clone, Copy)]
-pub enum Found {
-    At(DescriptorIndex),
-    Nothing,
+pub struct Receiving {
+    pub packet: Packet,
+    pub receipt: Receipt,
 }
 
 // What a send does: a descriptor sends, or is marked stalled since the fabric is not ready.
 #[derive(Clone, Copy)]
 pub enum Sending {
-    No(Refusal),
     Sends(DescriptorIndex),
     Waits(DescriptorIndex),
 }
 
 // What a take does: from this list, of this block, with this next.
 #[derive(Clone, Copy)]
-pub enum Taking {
-    No(Refusal),
-    Takes(ListIndex, BlockAddress, BlockAddress),
-}
-
-// Whether the rows sizes and unsound let a call go on.
-#[derive(Clone, Copy)]
-pub enum Verdict {
-    Go,
-    No(Refusal),
+pub struct Taking {
+    pub list: ListIndex,
+    pub block: BlockAddress,
+    pub next: BlockAddress,
 }

@@ -10,7 +10,6 @@ use Rattle.rules.specs.declared.Descriptor.{Descriptor}
 use Rattle.rules.specs.declared.DescriptorIndex.{DescriptorIndex}
 use Rattle.rules.specs.declared.Saved.{Saved}
 use Rattle.rules.specs.declared.Sending.{Sending}
-use Rattle.rules.specs.declared.Verdict.{Verdict}
 use Rattle.rules.specs.Words.{is_control_pkt, is_direct_io}
 use Rattle.rules.specs.Memory.{Machine, machine, data_most, direct_to}
 use Rattle.rules.specs.Sending.{next_payload, send_posting}
@@ -25,11 +24,13 @@ use Rattle.sound.proofs.Passing.{gated_sound}
 use Rattle.notices.proofs.Facts.{postable_all}
 use Rattle.sender.specs.Steps.{Choosable, SendableFrom, Markable, Sendable}
 use Rattle.sender.proofs.Choice.{none_sent}
+use Rattle.std.specs.Prelude.{Result, Ok, ⊤}
+use Rattle.rules.specs.declared.Refusal.{Refusal}
 
 -- ---- choosing
 
 -- A sound machine's sender can be chosen.
-choosable : (m : Machine) → Sound m → Choosable m.saved m.send m.receive
+choosable : (m : Machine) → Sound m → Choosable m
 choosable m sound =
     record {
       last = sound.ranges.lastsender;
@@ -42,12 +43,12 @@ choosable m sound =
     }
 
 -- What the judge of a send reads, once the gate said go.
-module _ (s : Saved) (send receive bytes notices : List ℕ) {v : Verdict} (told : Gated s send receive (length bytes) (length notices) v)
-    (go : v ≡ Verdict.Go) where
+module _ (s : Saved) (send receive bytes notices : List ℕ) {v : Result ⊤ Refusal} (told : Gated s send receive (length bytes) (length notices) v)
+    {x : ⊤} (go : v ≡ Ok x) where
   pub active_asks : length send ≡ 1024
   active_asks = (gated_sound s send receive bytes notices told go).sized.send
 
-  pub choose_asks : Choosable s send receive
+  pub choose_asks : Choosable (machine s send receive bytes notices)
   choose_asks = choosable (machine s send receive bytes notices) (gated_sound s send receive bytes notices told go)
 
 -- ---- the payload
@@ -112,7 +113,7 @@ module _ (m : Machine) (room : ℕ) (i : DescriptorIndex) (c : Chosen m room i) 
   chosen_waits = record { low = c.low; size = c.sound.sized.send }
 
 -- A send that was judged can be done.
-pub sendable : (m : Machine) (ready : Bool) (room : ℕ) {v : Sending} → judge_send m ready room ≡ v
+pub sendable : (m : Machine) (ready : Bool) (room : ℕ) {v : Result Sending Refusal} → judge_send m ready room ≡ v
     → Sendable v m.saved m.send m.receive (length m.bytes) (length m.notices) room
 sendable m ready room h =
     record {

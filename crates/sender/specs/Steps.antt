@@ -1,5 +1,5 @@
 -- What the steps of a send ask and give. Assumes nothing.
-use Rattle.std.specs.Prelude.{◌≡◌, true, false, List, ℕ, ◌+◌, ◌/◌, ◌^◌, ◌<◌, ◌≤◌, length}
+use Rattle.std.specs.Prelude.{Result, Ok, ◌≡◌, true, false, List, ℕ, ◌+◌, ◌/◌, ◌^◌, ◌<◌, ◌≤◌, length}
 use Rattle.ground.specs.Lists.{over}
 use Rattle.rules.specs.declared.Saved.{Saved}
 use Rattle.rules.specs.declared.DescriptorIndex.{DescriptorIndex}
@@ -7,7 +7,7 @@ use Rattle.rules.specs.declared.Descriptor.{Descriptor}
 use Rattle.rules.specs.declared.Sending.{Sending}
 use Rattle.rules.specs.declared.Answer.{Answer}
 use Rattle.rules.specs.Words.{is_direct_io}
-use Rattle.rules.specs.Memory.{machine, send_size, receive_size, descriptors}
+use Rattle.rules.specs.Memory.{Machine, machine, send_size, receive_size, descriptors}
 use Rattle.rules.specs.Saved.{own_node}
 use Rattle.rules.specs.Packet.{payload_most, packet_most}
 use Rattle.rules.specs.Sending.{descriptor_at, store_descriptor, is_active, next_payload, send_posting, next_packet, after_packet}
@@ -16,20 +16,21 @@ use Rattle.rules.specs.Calls.{act_send}
 use Rattle.laws.specs.Postings.{Listed}
 use Rattle.notices.specs.Steps.{PostableAll}
 use Rattle.sender.specs.declared.acting.Sent.{Sent}
+use Rattle.rules.specs.declared.Refusal.{Refusal}
 
 -- ---- choosing
 
 -- Whether a descriptor is ready can be asked: what it would post, if it is active, is on a list.
-pub record Askable (i : DescriptorIndex) (send receive : List ℕ) : Type 0 where
+pub record Askable (i : DescriptorIndex) (m : Machine) : Type 0 where
   pub low : i.0 < descriptors
-  pub words : length send ≡ send_size
-  pub lists : length receive ≡ receive_size
-  pub listed : is_active (descriptor_at send i) ≡ true → Listed (send_posting (descriptor_at send i))
+  pub words : length m.send ≡ send_size
+  pub lists : length m.receive ≡ receive_size
+  pub listed : is_active (descriptor_at m.send i) ≡ true → Listed (send_posting (descriptor_at m.send i))
 
 -- It can be asked of every descriptor, starting after the last sender.
-pub record Choosable (s : Saved) (send receive : List ℕ) : Type 0 where
-  pub last : s.lastsender < descriptors
-  pub each : (i : DescriptorIndex) → i.0 < descriptors → Askable i send receive
+pub record Choosable (m : Machine) : Type 0 where
+  pub last : m.saved.lastsender < descriptors
+  pub each : (i : DescriptorIndex) → i.0 < descriptors → Askable i m
 
 -- ---- the packet
 
@@ -77,14 +78,14 @@ pub record Markable (i : DescriptorIndex) (send : List ℕ) : Type 0 where
   pub size : length send ≡ send_size
 
 -- What was judged can be done.
-pub record Sendable (v : Sending) (s : Saved) (send receive : List ℕ) (data_length n room : ℕ) : Type 0 where
-  pub sends : (i : DescriptorIndex) → v ≡ Sending.Sends i → SendableFrom i s send receive data_length n room
-  pub waits : (i : DescriptorIndex) → v ≡ Sending.Waits i → Markable i send
+pub record Sendable (v : Result Sending Refusal) (s : Saved) (send receive : List ℕ) (data_length n room : ℕ) : Type 0 where
+  pub sends : (i : DescriptorIndex) → v ≡ Ok (Sending.Sends i) → SendableFrom i s send receive data_length n room
+  pub waits : (i : DescriptorIndex) → v ≡ Ok (Sending.Waits i) → Markable i send
 
 -- It was done.
-pub record Acts (v : Sending) (s : Saved) (send receive bytes notices room : List ℕ) (r : Answer) (send₂ receive₂ notices₂ room₂ : List ℕ) : Type 0 where
+pub record Acts (v : Result Sending Refusal) (s : Saved) (send receive bytes notices room : List ℕ) (r : Answer) (send₂ receive₂ notices₂ room₂ : List ℕ) : Type 0 where
   pub whole : answered r send₂ receive₂ bytes notices₂ room₂ ≡ act_send (machine s send receive bytes notices) room v
 
 -- The chosen descriptor was marked, whatever the other memories and the room hold.
 pub record Marks (i : DescriptorIndex) (s : Saved) (send : List ℕ) (r : Answer) (send₂ : List ℕ) : Type 0 where
-  pub whole : (receive bytes notices room : List ℕ) → Acts (Sending.Waits i) s send receive bytes notices room r send₂ receive notices room
+  pub whole : (receive bytes notices room : List ℕ) → Acts (Ok (Sending.Waits i)) s send receive bytes notices room r send₂ receive notices room

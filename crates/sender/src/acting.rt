@@ -1,5 +1,6 @@
-// A send that was judged, done: a packet goes out, or the chosen descriptor is marked stalled, or nothing changes.
-ghost use Rattle.std.specs.Prelude.{length};
+// A send that was judged, done: a packet goes out, or the chosen descriptor is marked stalled, or nothing changes. (The memories stay apart:
+// `&mut` says which a send may write.)
+ghost use Rattle.std.specs.Prelude.{Ok, length};
 ghost use Rattle.sender.specs.Steps.{Packable, Packs, SendableFrom, Markable, Sendable, Acts, Marks};
 
 use crate::{choosing, forming, moving};
@@ -13,7 +14,7 @@ use tables::{descriptor_at, store_descriptor};
 #[derive(Clone, Copy)]
 struct Sent {
     length: u32,
-    posting: Posting,
+    posting: Option<Posting>,
 }
 
 // The packet goes to the room, and the descriptor moves on.
@@ -37,6 +38,7 @@ fn send_packet(
 }
 
 // The packet, the last sender, and the notice that the packet posts; the value is the sent length.
+#[tactic(auto, using(crate::proofs::Steps::post_asks), unfolding(rules::specs::Calls::act_send, rules::specs::Calls::sent, rules::specs::Calls::packet_from))]
 fn act_sends(
     i: DescriptorIndex,
     s: Saved,
@@ -47,19 +49,19 @@ fn act_sends(
     room: &mut [u8],
 ) -> Answer
     requires { SendableFrom i s send.old receive.old (length bytes.now) (length notices.old) (length room.old) }
-    ensures { Acts (Sending.Sends i) s send.old receive.old bytes.now notices.old
+    ensures { Acts (Ok (Sending.Sends i)) s send.old receive.old bytes.now notices.old
         room.old result send.new receive.new notices.new room.new }
 {
     let sent = send_packet(i, s.pcsr0 % 0x1_0000, send, bytes, room);
-    let posting = sent.posting;
-    let mut saved = s;
-    saved.lastsender = i.0;
-    let posted = post_all(posting, saved, receive, notices);
-    let saved = posted.saved;
+    let moved = Saved {
+        lastsender: i.0,
+        ..s
+    };
+    let posted = post_all(sent.posting, moved, receive, notices);
     Answer {
         reply: Reply::Done(sent.length),
         interrupts: posted.interrupts,
-        saved,
+        saved: posted.saved,
     }
 }
 
@@ -67,6 +69,7 @@ fn act_sends(
 const STATUS2_WORD: usize = 6;
 
 // fabric: "stalled set on the chosen descriptor, no more".
+#[tactic(auto, using(crate::proofs::Steps::marked))]
 fn act_waits(i: DescriptorIndex, s: Saved, send: &mut [u32]) -> Answer
     requires { Markable i send.old }
     ensures { Marks i s send.old result send.new }
@@ -77,8 +80,9 @@ fn act_waits(i: DescriptorIndex, s: Saved, send: &mut [u32]) -> Answer
 }
 
 // By what was judged.
+#[tactic(auto, using(crate::proofs::Steps::acts_no, crate::proofs::Steps::acts_waits))]
 pub fn act_send(
-    v: Sending,
+    v: Result<Sending, Refusal>,
     s: Saved,
     send: &mut [u32],
     receive: &mut [u32],
@@ -91,8 +95,8 @@ pub fn act_send(
         room.old result send.new receive.new notices.new room.new }
 {
     match v {
-        Sending::No(why) => refuse(s, why),
-        Sending::Sends(i) => act_sends(i, s, send, receive, bytes, notices, room),
-        Sending::Waits(i) => act_waits(i, s, send),
+        Err(why) => refuse(s, why),
+        Ok(Sending::Sends(i)) => act_sends(i, s, send, receive, bytes, notices, room),
+        Ok(Sending::Waits(i)) => act_waits(i, s, send),
     }
 }

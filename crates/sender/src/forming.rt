@@ -9,6 +9,7 @@ use packet::form;
 use rules::{Descriptor, Header};
 
 // Words 0 to 3: address0, the slot and this node, control0, and of control1 the flag, the count and the size.
+#[tactic(auto, unfolding(rules::specs::Sending::next_header))]
 fn next_header(node: u32, d: Descriptor) -> Header
     requires { node ≤ 4095 }
     ensures { result ≡ next_header node d }
@@ -23,6 +24,7 @@ fn next_header(node: u32, d: Descriptor) -> Header
 }
 
 // The packet, and its length. An empty payload has no place: control_pkt asks nothing of msg_address.
+#[tactic(auto, using(ground::proofs::Choice::branches, ground::proofs::Bytes::row_length, ground::proofs::Lists::length_part), unfolding(rules::specs::Sending::next_packet, rules::specs::Sending::next_bytes))]
 pub(crate) fn next_packet(
     node: u32,
     d: Descriptor,
@@ -38,17 +40,12 @@ pub(crate) fn next_packet(
     let n = choosing::next_payload(d) as usize;
     let direct_io = d.control1 / 0x8000_0000 % 2 == 1;
     if n == 0 {
-        form::from_bytes(room, header, metadata, bytes, 0, 0)
+        form::packet(room, header, metadata, &bytes[..0])
     } else if direct_io {
-        form::from_words(
-            room,
-            header,
-            metadata,
-            send,
-            (d.msgaddress / 4) as usize,
-            n / 4,
-        )
+        let first = (d.msgaddress / 4) as usize;
+        form::packet(room, header, metadata, &send[first..first + n / 4])
     } else {
-        form::from_bytes(room, header, metadata, bytes, d.msgaddress as usize, n)
+        let first = d.msgaddress as usize;
+        form::packet(room, header, metadata, &bytes[first..first + n])
     }
 }

@@ -13,7 +13,7 @@ ghost use Rattle.sound.specs.Gated.{Gated};
 
 pub use registers::{pcsr0_ok, pointer_ok};
 use rules::sizes::{BLOCK_SIZE, DATA_MOST, NOTICES_MOST, RECEIVE_SIZE, SEND_SIZE};
-use rules::{Refusal, Saved, Verdict};
+use rules::{Refusal, Saved};
 
 // Each memory has its size, by the four lengths.
 pub fn sizes_ok(
@@ -27,12 +27,12 @@ pub fn sizes_ok(
     (sendlength == SEND_SIZE)
         & (receivelength == RECEIVE_SIZE)
         & (datalength <= DATA_MOST)
-        & (BLOCK_SIZE <= noticelength)
-        & (noticelength <= NOTICES_MOST)
+        & (BLOCK_SIZE..=NOTICES_MOST).contains(&noticelength)
         & (noticelength % BLOCK_SIZE == 0)
 }
 
 // The machine is sound. The lists are scanned only once the queues are in range, so that no scan is longer than a queue.
+#[tactic(auto, using(laws::proofs::Sound::rings), unfolding(rules::specs::Sound::sound_ok))]
 pub fn sound_ok(
     s: Saved,
     send: &[u32],
@@ -43,30 +43,30 @@ pub fn sound_ok(
     requires { Sized (length send.now) (length receive.now) datalength noticelength }
     ensures { result ≡ sound_ok s send.now receive.now datalength noticelength }
 {
-    if !(registers::registers_ok(s) & registers::queues_ok(s)) {
-        return false;
-    }
-    let nbqr = s.nbqr;
-    lists::lists_ok(receive, noticelength)
-        & lists::waiting_ok(receive, nbqr, noticelength)
-        & descriptors::descriptors_ok(send, datalength)
+    registers::registers_ok(s)
+        && registers::queues_ok(s)
+        && lists::heads_ok(receive, noticelength)
+        && lists::places_ok(receive, noticelength)
+        && lists::waiting_ok(receive, s.nbqr, noticelength)
+        && descriptors::descriptors_ok(send, datalength)
 }
 
-// The first two rows of every call's refusals: sizes, unsound; or the call goes on.
+// The first two rows of every call's refusals: sizes, unsound; or the call goes on. (Two memories by their lengths, and no `Seen`: whoever
+// knows the lengths alone may ask.)
 pub fn gate(
     s: Saved,
     send: &[u32],
     receive: &[u32],
     datalength: usize,
     noticelength: usize,
-) -> Verdict
+) -> Result<(), Refusal>
     ensures { Gated s send.now receive.now datalength noticelength result }
 {
     if !sizes_ok(send.len(), receive.len(), datalength, noticelength) {
-        return Verdict::No(Refusal::Sizes);
+        return Err(Refusal::Sizes);
     }
     if !sound_ok(s, send, receive, datalength, noticelength) {
-        return Verdict::No(Refusal::Unsound);
+        return Err(Refusal::Unsound);
     }
-    Verdict::Go
+    Ok(())
 }

@@ -26,6 +26,7 @@ pub fn pointer_ok(words: usize, p: u32) -> bool
 }
 
 // Every register is in its range.
+#[tactic(auto, unfolding(rules::specs::Sound::registers_ok))]
 pub(crate) fn registers_ok(s: Saved) -> bool
     ensures { result ≡ registers_ok s }
 {
@@ -48,11 +49,9 @@ fn queue_ok(q: Queue) -> bool
 }
 
 // NQR, AQR and NBQR.
+#[tactic(auto, unfolding(rules::specs::Sound::queues_ok))]
 pub(crate) fn queues_ok(s: Saved) -> bool
     ensures { result ≡ queues_ok s }
 {
-    let nqr = s.nqr;
-    let aqr = s.aqr;
-    let nbqr = s.nbqr;
-    queue_ok(nqr) & queue_ok(aqr) & queue_ok(nbqr)
+    queue_ok(s.nqr) & queue_ok(s.aqr) & queue_ok(s.nbqr)
 }

@@ -3,8 +3,6 @@ use Prim.Native.Nat.{ℕ, ◌+◌, ◌-◌, ◌*◌, ◌/◌, ◌%◌, ◌<◌, 
 use mathlib.Core.Path.{◌≡◌, refl, sym, ap, ◌∙◌}
 use mathlib.Core.List.{List}
 use native.Mathlib.Omega.{arith}
-use mir.Syntax.{w64}
-use mir.Val.{Fits}
 use borrow.Author.Tests.{eq-eqb, ne_eqb}
 use lib.Dec.{eqb}
 use lib.ListN.{length, take, drop}
@@ -12,11 +10,12 @@ use lib.Seq.{sets, length-sets, drop_at, take-take}
 use Rattle.ground.specs.Lists.{part}
 use Rattle.ground.proofs.Choice.{arm_yes, arm_no, pick_holds}
 use Rattle.ground.proofs.Lists.{part_sets, part_add, length_part}
-use Rattle.rules.specs.Memory.{Machine}
+use Rattle.rules.specs.declared.Saved.{Saved}
+use Rattle.rules.specs.Memory.{Machine, machine}
+use Rattle.station.specs.declared.state.Station.{Station}
 use Rattle.rules.specs.Station.{record_size, lines_from}
-use Rattle.records.specs.declared.running.Progress.{Progress}
 use Rattle.records.specs.Records.{machine_after, Runs}
-use Rattle.station.specs.Turns.{answered_to, answered_of, waiting_of, waiting_in, hand_in, Begins, Filled, Answers}
+use Rattle.station.specs.Turns.{answered_to, answered_of, waiting_of, waiting_in, hand_in, Begins, Answers}
 
 -- ---- which are answered
 
@@ -39,23 +38,23 @@ nearly_all {end} came filled e =
 
 -- ---- bytes that wait
 
--- What was stored there.
-stored : (i n : ℕ) (v l : List ℕ) → length v ≡ n → i + n ≤ length l → part i n (sets l i v) ≡ v
-stored i n v l e h = ap (λ (k : ℕ). part i k (sets l i v)) (sym e) ∙ part_sets l i v (omega arith)
+-- What was stored_there there.
+stored_there : (i n : ℕ) (v l : List ℕ) → length v ≡ n → i + n ≤ length l → part i n (sets l i v) ≡ v
+stored_there i n v l e h = ap (λ (k : ℕ). part i k (sets l i v)) (sym e) ∙ part_sets l i v (omega arith)
 
 -- A part that came there by way of another room.
 pub to_wait : {room after : List ℕ} (from to : ℕ) (input rest : List ℕ)
-    → Begins input rest from to → room ≡ sets rest 0 (part from (to - from) input) → after ≡ sets input (record_size - (to - from)) (take (to - from) room)
+    → Begins input from to → record_size ≤ length rest → room ≡ sets rest 0 (part from (to - from) input) → after ≡ sets input (record_size - (to - from)) (take (to - from) room)
     → waiting_in after (to - from) ≡ part from (to - from) input
-to_wait from to input rest h there back =
+to_wait from to input rest h wide there back =
     let n : ℕ = to - from in
     let v : List ℕ = part from n input in
     let e : length v ≡ n = length_part from n input (omega (arith, h.order, h.inside)) in
-    let held : take n (sets rest 0 v) ≡ v = stored 0 n v rest e (omega (arith, h.less, h.room)) in
+    let held : take n (sets rest 0 v) ≡ v = stored_there 0 n v rest e (omega (arith, h.less, wide)) in
     ap (λ (x : List ℕ). waiting_in x n) back
     ∙ ap (λ (x : List ℕ). waiting_in (sets input (record_size - n) (take n x)) n) there
     ∙ ap (λ (x : List ℕ). waiting_in (sets input (record_size - n) x) n) held
-    ∙ stored (record_size - n) n v input e (omega (arith, h.less, h.first))
+    ∙ stored_there (record_size - n) n v input e (omega (arith, h.less, h.first))
 
 -- ---- the records answered, the rest kept
 
@@ -71,55 +70,50 @@ part_rest a k n l h f =
     ∙ drop_at (part a k l) (part (a + k) (n - k) l) k (length_part a k l (omega arith))
 
 -- Where the records end that are answered, and what is left from there on.
-module _ {input out rest : List ℕ} {kept came to : ℕ} (f : Filled input out rest kept came) (e : to ≡ answered_to came (kept + came)) where
-  pub end_fits : Fits w64 (record_size - kept + to)
-  end_fits = record { fits = omega (arith, f.rooms.0, f.less, f.fits, (nearly_all came (kept + came) e).0) }
-
+module _ {to : ℕ} (input : List ℕ) (kept came : ℕ) (less : kept < record_size) (fits : record_size + came ≤ length input) (e : to ≡ answered_to came (kept + came)) where
   pub end_inside : record_size - kept + to ≤ length input
-  end_inside = omega (arith, f.less, f.fits, (nearly_all came (kept + came) e).0)
+  end_inside = omega (arith, less, fits, (nearly_all came (kept + came) e).0)
 
-  pub rest_begins : Begins input rest (record_size - kept + to) (record_size + came)
+  pub rest_begins : Begins input (record_size - kept + to) (record_size + came)
   rest_begins =
       let near = nearly_all came (kept + came) e in
-      record {
-        order = omega (arith, f.less, near.0);
-        inside = f.fits;
-        less = omega (arith, f.less, near.1);
-        first = omega (arith, f.fits);
-        room = omega (arith, f.rooms.2);
-      }
+      record { order = omega (arith, less, near.0); inside = fits; less = omega (arith, less, near.1); first = omega (arith, fits) }
+
+  -- Less than a record waits.
+  pub less_waits : record_size + came - (record_size - kept + to) < record_size
+  less_waits = let near = nearly_all came (kept + came) e in omega (arith, less, near.0, near.1)
 
 -- The records up to their end were run, and the bytes from there on kept.
-pub answers : {m : Machine} {before out after : List ℕ} {t : Progress} {send receive bytes notices : List ℕ}
-    → (input rest : List ℕ) (kept came to left : ℕ) → Filled input before rest kept came → to ≡ answered_to came (kept + came)
-    → Runs m (part (record_size - kept) (record_size - kept + to - (record_size - kept)) input) before t send receive bytes notices out
-    → left ≡ record_size + came - (record_size - kept + to)
-    → waiting_in after (record_size + came - (record_size - kept + to)) ≡ part (record_size - kept + to) (record_size + came - (record_size - kept + to)) input
-    → Answers m came (hand_in input kept came) (record { saved = t.saved; next = t.next; kept = left }) send receive bytes notices after out
-answers {m} {before} {out} {after} {t} {send} {receive} {bytes} {notices} input rest kept came to left f e ran many waits =
-    let less : kept < record_size = f.less in
-    let fits : record_size + came ≤ length input = f.fits in
+pub answers : {m end : Machine} {before : List ℕ} {t : ℕ} {left : Station} (input : List ℕ) (kept came to : ℕ)
+    → kept < record_size → record_size + came ≤ length input → to ≡ answered_to came (kept + came)
+    → Runs m (part (record_size - kept) (record_size - kept + to - (record_size - kept)) input) before t end left.out
+    → machine left.saved left.send left.receive left.bytes left.notices ≡ end
+    → left.kept ≡ record_size + came - (record_size - kept + to)
+    → waiting_in left.input (record_size + came - (record_size - kept + to)) ≡ part (record_size - kept + to) (record_size + came - (record_size - kept + to)) input
+    → Answers m came (hand_in input kept came) t left
+answers {m} {end} {before} {t} {left} input kept came to less fits e ran stored many waits =
     let start : ℕ = record_size - kept in
     let cut : start + to - start ≡ to = omega arith in
-    let r : Runs m (part start to input) before t send receive bytes notices out = rw cut at ran in
+    let r : Runs m (part start to input) before t end left.out = rw cut at ran in
     let hand : List ℕ = hand_in input kept came in
     let near = nearly_all came (kept + came) e in
     let size : length hand ≡ kept + came = length_part start (kept + came) input (omega arith) in
     let whole : answered_to came (length hand) ≡ to = ap (answered_to came) size ∙ sym e in
     let first : answered_of came hand ≡ part start to input = ap (λ (n : ℕ). take n hand) whole ∙ part_start start to (kept + came) input near.0 in
-    let over : left ≡ kept + came - to = omega (arith, many, near.0) in
-    let others : waiting_of came hand ≡ part (start + to) left input =
+    let over : left.kept ≡ kept + came - to = omega (arith, many, near.0) in
+    let others : waiting_of came hand ≡ part (start + to) left.kept input =
     ap (λ (n : ℕ). drop n hand) whole
     ∙ part_rest start to (kept + came) input near.0 (omega arith)
     ∙ ap (λ (n : ℕ). part (start + to) n input) (sym over) in
     let lines : List ℕ = lines_from (length (part start to input)) m (part start to input) in
-    let long : length out ≡ length before = ap length r.lines.buffer ∙ length-sets before 0 lines in
-    let written : take t.next out ≡ lines =
-    ap (take t.next) r.lines.buffer ∙ stored 0 t.next lines before (omega (arith, r.lines.ends)) (omega (arith, r.inside)) in
+    let long : length left.out ≡ length before = ap length r.lines.buffer ∙ length-sets before 0 lines in
+    let written : take t left.out ≡ lines =
+    ap (take t) r.lines.buffer ∙ stored_there 0 t lines before (omega (arith, r.lines.ends)) (omega (arith, r.inside)) in
     record {
-      state = r.state ∙ ap (λ (l : List ℕ). machine_after (length l) m l) (sym first);
+      state = stored
+          ∙ r.state
+          ∙ ap (λ (l : List ℕ). machine_after (length l) m l) (sym first);
       lines = written ∙ ap (λ (l : List ℕ). lines_from (length l) m l) (sym first);
       inside = r.inside;
-      waits = ap (waiting_in after) many ∙ waits ∙ ap (λ (n : ℕ). part (start + to) n input) (sym many) ∙ sym others;
-      less = omega (arith, over, near.1);
+      waits = ap (waiting_in left.input) many ∙ waits ∙ ap (λ (n : ℕ). part (start + to) n input) (sym many) ∙ sym others;
     }

@@ -3,21 +3,16 @@ use Prim.Native.Nat.{ℕ, ◌+◌, ◌-◌, ◌%◌, ◌<◌, ◌≤◌}
 use mathlib.Core.Path.{◌≡◌, refl, sym, ap, ◌∙◌}
 use mathlib.Core.List.{List, [], ◌++◌, append_assoc, append-nil}
 use native.Mathlib.Omega.{arith}
-use lib.ListN.{length, length-append, length-drop, take, drop, take-append-drop, drop_of_length-le}
+use lib.ListN.{length, replicate, length-append, length-drop, take, drop, take-append-drop, drop_of_length-le}
 use lib.Seq.{length-take-le, take-length}
 use Rattle.ground.specs.Lists.{part}
 use Rattle.ground.proofs.Lists.{length_part, part_add}
-use Rattle.rules.specs.declared.Saved.{Saved}
-use Rattle.rules.specs.Memory.{Machine, machine}
-use Rattle.rules.specs.Saved.{reset_saved}
-use Rattle.rules.specs.Registers.{pcsr0_number}
-use Rattle.rules.specs.Calls.{writes, perform}
+use Rattle.rules.specs.Memory.{send_size, receive_size, data_most, notices_most}
 use Rattle.rules.specs.Station.{record_size, zero_machine, first_machine, station}
-use Rattle.boundary.specs.Boundary.{saved_of, words_of}
 use Rattle.records.specs.Records.{Opens}
 use Rattle.records.proofs.Rows.{in_parts}
-use Rattle.station.specs.declared.answering.Answered.{Answered}
-use Rattle.station.specs.Turns.{answered_to, answered_of, lines_of, waiting_in, came_in, hand_in, Answers, Held, held, Zeros, Begun, gone_on, lines_now, Reads, none, ◌▸◌, read, after, written, Going, SoFar, Turnable, Turned, InTurns}
+use Rattle.station.specs.declared.state.Station.{Station}
+use Rattle.station.specs.Turns.{answered_to, answered_of, lines_of, waiting_in, came_in, hand_in, machine_in, Answers, Held, held, Begun, gone_on, lines_now, Reads, none, ◌▸◌, read, after, written, Going, SoFar, Turnable, Turned, InTurns}
 use Rattle.station.proofs.Hand.{at_the_end, before_the_end, part_rest}
 
 -- ---- the lines of a turn
@@ -93,10 +88,6 @@ still_waits input input₂ kept h long long₂ same =
     part_rest 0 (record_size - kept) record_size l (omega arith) f ∙ (λ i. part (at i) (many i) l) in
     sym (last input₂ long₂) ∙ ap (drop (record_size - kept)) same ∙ last input long
 
-pub after_read : {h : Held} {waits : List ℕ} {count : ℕ} → waits ≡ h.waits → SoFar h count → SoFar (record { machine = h.machine; waits = waits }) count
-after_read {h} same f =
-    record { reads = f.reads; going = f.going; many = f.many; left = (λ i. record { machine = h.machine; waits = same i }) ∙ f.left }
-
 -- ---- a turn
 
 -- What it made of what was left before: so much for all turns.
@@ -130,35 +121,27 @@ behind input kept n h =
     let at : record_size - kept + kept ≡ record_size = omega arith in
     part_add (record_size - kept) kept n input ∙ ap (λ (k : ℕ). waiting_in input kept ++ part k n input) at
 
--- By its steps: the state loaded, the records answered, the state stored, the bytes counted.
-pub in_memories : {send receive bytes notices saved₂ send₂ receive₂ bytes₂ notices₂ input₂ out out₂ rest : List ℕ} {s : Saved} {a : Answered}
-    → (saved input : List ℕ) (kept count n : ℕ) → Turnable saved send receive bytes notices input out rest kept count n → s ≡ saved_of saved
-    → Answers (machine s send receive bytes notices) n (hand_in input kept n) a send₂ receive₂ bytes₂ notices₂ input₂ out₂
-    → saved₂ ≡ words_of a.saved
-    → Turned (held saved send receive bytes notices input kept) count (came_in input n) a.next
-    (held saved₂ send₂ receive₂ bytes₂ notices₂ input₂ a.kept) (count + n) out₂
-unfolding gone_on lines_now saved_of words_of
-in_memories {send} {receive} {bytes} {notices} {saved₂} {send₂} {receive₂} {bytes₂} {notices₂} {input₂} {out₂ = out₂} {s = s} {a = a} saved input kept count n given loaded answers stored =
-    let long : length (came_in input n) ≡ n = length_part record_size n input given.filled.fits in
-    let r : Answers (machine (saved_of saved) send receive bytes notices) (length (came_in input n)) (waiting_in input kept ++ came_in input n) a send₂ receive₂ bytes₂ notices₂ input₂ out₂ =
-    rw (long, ← loaded, ← behind input kept n given.filled.less) answers in
-    let kept-state : saved_of saved₂ ≡ a.saved = ap saved_of stored in
-    let t = turned {came = came_in input n} {count = count}
-    (λ i. record { machine = (ap (λ (x : Saved). machine x send₂ receive₂ bytes₂ notices₂) kept-state ∙ r.state) i; waits = r.waits i })
-    r.lines
-    r.inside
-    given.so_far in
-    rw long at t
+-- By its steps: the records answered, the bytes counted.
+pub in_memories : {s left : Station} {n next count : ℕ} → Turnable s n → Answers (machine_in s) n (hand_in s.input s.kept n) next left → count ≡ s.count + n
+    → Turned (held s) s.count (came_in s.input n) next (held left) count left.out
+unfolding gone_on lines_now
+in_memories {s} {left} {n} {next} {count} given answers counted =
+    let long : length (came_in s.input n) ≡ n = length_part record_size n s.input given.fits in
+    let r : Answers (machine_in s) (length (came_in s.input n)) (waiting_in s.input s.kept ++ came_in s.input n) next left =
+    rw (long, ← behind s.input s.kept n s.less) answers in
+    let t = turned {came = came_in s.input n} {count = s.count} (λ i. record { machine = r.state i; waits = r.waits i }) r.lines r.inside given.so_far in
+    rw (long, ← counted) at t
 
 -- ---- the beginning
 
--- The opening reset over memories of zeros, stored; no byte waits.
-pub begun : {words saved send receive bytes notices send₂ receive₂ notices₂ : List ℕ} {kept count : ℕ} {s : Saved} → Zeros words send receive bytes notices
-    → Opens send receive bytes notices (machine s send₂ receive₂ bytes notices₂) → saved ≡ words_of s → kept ≡ 0 → count ≡ 0
-    → Begun saved send₂ receive₂ bytes notices₂ kept count
-unfolding first_machine zero_machine saved_of words_of
-begun {words} {saved} {send} {receive} {bytes} {notices} {send₂} {receive₂} {notices₂} {kept} {count} {s} z o stored zero unread =
-    let reset : List ℕ → List ℕ → List ℕ → List ℕ → Machine = λ a b c d. (perform (writes pcsr0_number 0x80000000) (machine (reset_saved 0) a b c d)).machine in
-    let state : machine (saved_of saved) send₂ receive₂ bytes notices₂ ≡ first_machine =
-    ap (λ (w : List ℕ). machine (saved_of w) send₂ receive₂ bytes notices₂) stored ∙ o.reset ∙ (λ i. reset (z.send i) (z.receive i) (z.bytes i) (z.notices i)) in
-    record { opens = λ input. λ i. record { machine = state i; waits = waiting_in input (zero i) }; nothing = zero; none = unread }
+-- The opening reset over memories of zeros; no byte waits.
+pub begun : {s : Station}
+    → Opens (replicate send_size 0) (replicate receive_size 0) (replicate data_most 0) (replicate notices_most 0) (machine_in s) → s.kept ≡ 0 → s.count ≡ 0
+    → Begun s
+unfolding first_machine zero_machine
+begun {s} o zero unread =
+    record { opens = λ input. λ i. record { machine = o.reset i; waits = waiting_in input (zero i) }; nothing = zero; none = unread }
+
+-- So it has what no turns left.
+pub at_first : {s : Station} → Begun s → SoFar (held s) s.count
+at_first {s} b = record { reads = none; going = tt; many = sym b.none; left = b.opens s.input }

@@ -1,14 +1,12 @@
 -- What a turn of the station makes of bytes that came, and what its turns write together. Assumes nothing.
 -- The reads and writes promise nothing of the system's bytes: which bytes came, and that the lines went out, no contract can say.
-use Rattle.std.specs.Prelude.{ℕ, ◌+◌, ◌-◌, ◌*◌, ◌/◌, ◌%◌, ◌^◌, ◌<◌, ◌≤◌, ◌≡◌, List, [], ◌++◌, eqb, length, take, drop, replicate}
+use Rattle.std.specs.Prelude.{ℕ, ◌+◌, ◌-◌, ◌*◌, ◌/◌, ◌%◌, ◌^◌, ◌<◌, ◌≤◌, ◌≡◌, List, [], ◌++◌, eqb, length, take, drop}
 use Rattle.ground.specs.Choice.{pick}
 use Rattle.ground.specs.Lists.{part}
-use Rattle.rules.specs.Memory.{Machine, machine, send_size, receive_size, data_most, notices_most}
+use Rattle.rules.specs.Memory.{Machine, machine}
 use Rattle.rules.specs.Station.{record_size, first_machine, lines_from, station}
-use Rattle.boundary.specs.Boundary.{saved_size, saved_of}
-use Rattle.lines.specs.Lines.{line_most}
 use Rattle.records.specs.Records.{machine_after}
-use Rattle.station.specs.declared.answering.Answered.{Answered}
+use Rattle.station.specs.declared.state.Station.{Station}
 
 -- ---- the bytes at hand
 
@@ -28,10 +26,6 @@ waiting_of came hand = drop (answered_to came (length hand)) hand
 abbrev pub lines_of : Machine → List ℕ → List ℕ
 lines_of m input = lines_from (length input) m input
 
--- The rooms: 256 records, as many lines, and one record for what waits.
-abbrev pub Rooms : List ℕ → List ℕ → List ℕ → Type 0
-Rooms input out rest = (256 * record_size ≡ length input) × (256 * line_most ≡ length out) × (record_size ≡ length rest)
-
 -- The bytes that wait stand at the end of the room's first record, so that what comes next stands behind them.
 abbrev pub waiting_in : List ℕ → ℕ → List ℕ
 waiting_in input kept = part (record_size - kept) kept input
@@ -45,26 +39,22 @@ abbrev pub hand_in : List ℕ → ℕ → ℕ → List ℕ
 hand_in input kept n = part (record_size - kept) (kept + n) input
 
 -- Less than a record stands from one place to another.
-pub record Begins (input rest : List ℕ) (from to : ℕ) : Type 0 where
+pub record Begins (input : List ℕ) (from to : ℕ) : Type 0 where
   pub order : from ≤ to
   pub inside : to ≤ length input
   pub less : to < from + record_size
   pub first : record_size ≤ length input
-  pub room : record_size ≤ length rest
 
--- Less than a record waits, and so many bytes came behind it.
-pub record Filled (input out rest : List ℕ) (kept n : ℕ) : Type 0 where
-  pub rooms : Rooms input out rest
-  pub less : kept < record_size
-  pub fits : record_size + n ≤ length input
+-- The station's machine.
+abbrev pub machine_in : Station → Machine
+machine_in s = machine s.saved s.send s.receive s.bytes s.notices
 
 -- Of the bytes at hand, so many of which came last, the records are answered, and the other bytes wait.
-pub record Answers (m : Machine) (came : ℕ) (hand : List ℕ) (a : Answered) (send receive bytes notices input out : List ℕ) : Type 0 where
-  pub state : machine a.saved send receive bytes notices ≡ machine_after (length (answered_of came hand)) m (answered_of came hand)
-  pub lines : take a.next out ≡ lines_of m (answered_of came hand)
-  pub inside : a.next ≤ length out
-  pub waits : waiting_in input a.kept ≡ waiting_of came hand
-  pub less : a.kept < record_size
+pub record Answers (m : Machine) (came : ℕ) (hand : List ℕ) (next : ℕ) (left : Station) : Type 0 where
+  pub state : machine_in left ≡ machine_after (length (answered_of came hand)) m (answered_of came hand)
+  pub lines : take next left.out ≡ lines_of m (answered_of came hand)
+  pub inside : next ≤ length left.out
+  pub waits : waiting_in left.input left.kept ≡ waiting_of came hand
 
 -- ---- between two turns
 
@@ -73,28 +63,19 @@ pub record Held : Type 0 where
   pub machine : Machine
   pub waits : List ℕ
 
--- As lent memories have it: the saved state in words, the waiting bytes in the input's room.
-abbrev pub held : List ℕ → List ℕ → List ℕ → List ℕ → List ℕ → List ℕ → ℕ → Held
-held saved send receive bytes notices input kept =
-    record { machine = machine (saved_of saved) send receive bytes notices; waits = waiting_in input kept }
-
--- "Memories are the largest, zero"; and words for the saved state.
-pub record Zeros (saved send₀ receive₀ bytes₀ notices₀ : List ℕ) : Type 0 where
-  pub words : length saved ≡ saved_size
-  pub send : send₀ ≡ replicate send_size 0
-  pub receive : receive₀ ≡ replicate receive_size 0
-  pub bytes : bytes₀ ≡ replicate data_most 0
-  pub notices : notices₀ ≡ replicate notices_most 0
+-- As the station has it.
+abbrev pub held : Station → Held
+held s = record { machine = machine_in s; waits = waiting_in s.input s.kept }
 
 -- Before the first turn: the machine after the opening reset, and no byte waits.
 abbrev pub opened : Held
 opened = record { machine = first_machine; waits = [] }
 
--- The memories have it, whatever the input's room holds.
-pub record Begun (saved send receive bytes notices : List ℕ) (kept count : ℕ) : Type 0 where
-  pub opens : (input : List ℕ) → held saved send receive bytes notices input kept ≡ opened
-  pub nothing : kept ≡ 0
-  pub none : count ≡ 0
+-- The station has it, whatever its input's room holds.
+pub record Begun (s : Station) : Type 0 where
+  pub opens : (input : List ℕ) → held (record s { input = input }) ≡ opened
+  pub nothing : s.kept ≡ 0
+  pub none : s.count ≡ 0
 
 -- ---- a turn
 
@@ -151,12 +132,11 @@ pub record SoFar (h : Held) (count : ℕ) : Type 0 where
   pub many : length (read reads) ≡ count
   pub left : h ≡ after reads
 
--- What a turn is lent: the words of the saved state, the rooms with the bytes that wait and came; and it is what the turns before left.
-pub record Turnable (saved send receive bytes notices input out rest : List ℕ) (kept count n : ℕ) : Type 0 where
-  pub words : length saved ≡ saved_size
-  pub filled : Filled input out rest kept n
-  pub counts : count < count_most
-  pub so_far : SoFar (held saved send receive bytes notices input kept) count
+-- What a turn asks of the station: so many bytes came into its room, and it has what the turns before left.
+pub record Turnable (s : Station) (n : ℕ) : Type 0 where
+  pub fits : record_size + n ≤ length s.input
+  pub counts : s.count < count_most
+  pub so_far : SoFar (held s) s.count
 
 -- A turn made of what the turns before left, and of what came, just what it should; and so, whatever was read before, all that was written
 -- by now is what the turns write, and at the end of the input the station's lines of all that was read. Else the next turn can go on.

@@ -1,62 +1,61 @@
-// The station between its reads and writes: how it begins, and what a turn makes of bytes that came. All that one turn leaves to the next
-// stands in the lent memories, so that nothing has to be handed over.
-ghost use Rattle.std.specs.Prelude.{◌<◌};
+// The station between its reads and writes: how it begins, what a read puts in its room, and what a turn makes of bytes that came.
+ghost use Rattle.std.specs.Prelude.{◌≡◌, ◌+◌, ◌≤◌, length, take};
 ghost use Rattle.rules.specs.Station.{record_size};
-ghost use Rattle.station.specs.Turns.{Zeros, Begun, held, came_in, Turnable, Turned, InTurns};
+ghost use Rattle.station.specs.Turns.{Begun, held, came_in, Turnable, Turned, InTurns};
 
-use crate::answering::answer;
+use crate::state::Station;
+use lines::LINE_MOST;
+use rules::sizes::{DATA_MOST, NOTICES_MOST, RECEIVE_SIZE, RECORD_SIZE, SEND_SIZE};
+use std::io::Read;
 
-// The opening reset over memories of zeros; no byte waits, and none was read.
-pub(crate) fn begin(
-    saved: &mut [u32],
-    send: &mut [u32],
-    receive: &mut [u32],
-    bytes: &[u8],
-    notices: &mut [u32],
-    kept: &mut usize,
-    count: &mut u64,
-)
-    requires { Zeros saved.old send.old receive.old bytes.now notices.old }
-    ensures { Begun saved.new send.new receive.new bytes.now notices.new
-        kept.new count.new }
-{
-    let s = records::open(send, receive, bytes, notices);
-    boundary::store(saved, s);
-    *kept = 0;
-    *count = 0;
-}
+impl Station {
+    // The opening reset over memories of zeros; no byte waits, and none was read.
+    pub(crate) fn begin() -> Self
+        ensures { Begun result }
+    {
+        let mut send = [0u32; SEND_SIZE];
+        let mut receive = [0u32; RECEIVE_SIZE];
+        let bytes = [0u8; DATA_MOST];
+        let mut notices = [0u32; NOTICES_MOST];
+        let saved = records::open(&mut send, &mut receive, &bytes, &mut notices);
+        Station {
+            saved,
+            send,
+            receive,
+            bytes,
+            notices,
+            input: [0; 256 * RECORD_SIZE],
+            out: [0; 256 * LINE_MOST],
+            count: 0,
+            kept: 0,
+        }
+    }
 
-// So many bytes came: with those that wait before them the records at hand are answered, and the rest waits. Where the lines end.
-pub(crate) fn turn(
-    saved: &mut [u32],
-    send: &mut [u32],
-    receive: &mut [u32],
-    bytes: &mut [u8],
-    notices: &mut [u32],
-    input: &mut [u8],
-    kept: &mut usize,
-    count: &mut u64,
-    n: usize,
-    rest: &mut [u8],
-    out: &mut [u8],
-) -> usize
-    requires { Turnable saved.old send.old receive.old bytes.old notices.old input.old
-        out.old rest.old kept.old count.old n }
-    ensures kept_lt_record_size { kept.new < record_size }
-    ensures turned { Turned (held saved.old send.old receive.old bytes.old notices.old input.old kept.old) count.old
-        (came_in input.old n) result
-        (held saved.new send.new receive.new bytes.new notices.new input.new kept.new) count.new out.new }
-{
-    let s = boundary::load(saved);
-    let answered = answer(s, send, receive, bytes, notices, input, out, rest, *kept, n);
-    let left = answered.saved;
-    boundary::store(saved, left);
-    *kept = answered.kept;
-    *count += n as u64;
-    answered.next
+    // Reads what is at hand behind the input's first record, where bytes may wait, and says how many bytes came: 0 at the end of the input,
+    // and where a read fails.
+    pub(crate) fn read_on(&mut self, from: &mut impl Read) -> usize
+        ensures result_in_bounds { record_size + result ≤ length self.new.input }
+        ensures input_unchanged { take record_size self.new.input ≡ take record_size self.old.input }
+        ensures held_unchanged { held self.new ≡ held self.old }
+        ensures count_unchanged { self.new.count ≡ self.old.count }
+    {
+        let input: &mut [u8] = &mut self.input;
+        from.read(&mut input[RECORD_SIZE..]).unwrap_or(0)
+    }
+
+    // So many bytes came: with those that wait before them the records at hand are answered, and the rest waits. Where the lines end.
+    pub(crate) fn turn(&mut self, n: usize) -> usize
+        requires { Turnable self.old n }
+        ensures { Turned (held self.old) self.old.count (came_in self.old.input n) result (held self.new) self.new.count self.new.out }
+    {
+        let next = self.answer(n);
+        self.count += n as u64;
+        next
+    }
 }
 
 // However the reads cut the input, the turns write the station's lines.
+#[tactic(auto, using(crate::proofs::Turns::in_turns))]
 fn in_turns()
     ensures { InTurns }
 {}

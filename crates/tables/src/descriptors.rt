@@ -1,4 +1,5 @@
 // The four send descriptors, 16 words each from word 0 of Send RAM on.
+// (Number and size are asked for in each contract: `lists` and `sound::lists` say why.)
 ghost use Rattle.std.specs.Prelude.{◌≡◌, ◌<◌, length};
 ghost use Rattle.rules.specs.Memory.{send_size, descriptors};
 ghost use Rattle.rules.specs.Sending.{descriptor_at, store_descriptor};
@@ -8,6 +9,7 @@ use rules::sizes::DESCRIPTOR_SIZE;
 use rules::{Descriptor, DescriptorIndex};
 
 // Words 0 to 6 and 8 to 11 of a descriptor.
+#[tactic(auto, unfolding(rules::specs::Sending::descriptor_at))]
 pub fn descriptor_at(send: &[u32], d: DescriptorIndex) -> Descriptor
     requires { (d.0 < descriptors) × (length send.now ≡ send_size) }
     ensures { result ≡ descriptor_at send.now d }
@@ -26,6 +28,7 @@ pub fn descriptor_at(send: &[u32], d: DescriptorIndex) -> Descriptor
 }
 
 // Words 0 to 6 stored: all that a go and a packet change.
+#[tactic(auto, unfolding(rules::specs::Sending::store_descriptor))]
 pub fn store_descriptor(send: &mut [u32], d: DescriptorIndex, v: Descriptor)
     requires { (d.0 < descriptors) × (length send.old ≡ send_size) }
     ensures { send.new ≡ store_descriptor send.old d v }
@@ -39,5 +42,5 @@ pub fn store_descriptor(send: &mut [u32], d: DescriptorIndex, v: Descriptor)
         v.control1,
         v.status2,
     ];
-    words::store(send, DESCRIPTOR_SIZE as usize * d.0 as usize, &row);
+    words::copy(send, DESCRIPTOR_SIZE as usize * d.0 as usize, &row);
 }

@@ -29,11 +29,15 @@ fn address_ok(direct: bool, address: u32, size: u32, datalength: usize) -> bool
     ensures { result ≡ address_ok direct address size datalength }
 {
     let end = address as usize + size as usize;
-    (!direct & (end <= datalength))
-        | (direct & (address % 4 == 0) & (DIRECT_FROM <= address) & (end <= DIRECT_TO))
+    if direct {
+        (address % 4 == 0) & (DIRECT_FROM <= address) & (end <= DIRECT_TO)
+    } else {
+        end <= datalength
+    }
 }
 
 // What the go rule asks of a size.
+#[tactic(auto, unfolding(rules::specs::Sending::message_size_ok))]
 fn message_size_ok(d: Descriptor, control1: u32, size: u32, datalength: usize) -> bool
     ensures { result ≡ message_size_ok d control1 size datalength }
 {
@@ -45,6 +49,7 @@ fn message_size_ok(d: Descriptor, control1: u32, size: u32, datalength: usize) -
 }
 
 // The go rule, of a control1 word and a size: a write asks it of msg_size, soundness of bytes_to_go.
+#[tactic(auto, unfolding(rules::specs::Sending::go_rule))]
 pub fn go_rule(d: Descriptor, control1: u32, size: u32, datalength: usize) -> bool
     ensures { result ≡ go_rule d control1 size datalength }
 {

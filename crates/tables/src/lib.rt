@@ -15,7 +15,7 @@ pub use lists::{head_word, is_block, is_block_or_none, place_word, token_word};
 use rules::Metadata;
 pub use slots::{slot_at, store_slot};
 
-// Four metadata words from word i of a RAM on.
+// Four metadata words from word i of a RAM on. (Field by field, here and where they are stored: by a From of four words they would be no shorter.)
 fn metadata_at(ram: &[u32], i: usize) -> Metadata
     requires { i + 4 ≤ length ram.now }
     ensures { result ≡ metadata_at ram.now i }

@@ -1,9 +1,11 @@
 // Where a list's head, token and reader's place stand in Receive RAM, and what a block's address is.
+// A `ListIndex` has no bound of its own: `list` of rules/specs/Memory makes one of any number, and what a descriptor would post names
+// one whose range soundness alone knows.
 ghost use Rattle.std.specs.Prelude.{◌≡◌, ◌<◌};
 ghost use Rattle.rules.specs.Memory.{lists, head_word, token_word, place_word, is_block, is_block_or_none};
 
 use rules::ListIndex;
-use rules::sizes::{BLOCK_SIZE, LISTS_FROM, PLACES_FROM};
+use rules::sizes::{LISTS_FROM, PLACES_FROM};
 
 // Where a list's head stands.
 pub fn head_word(l: ListIndex) -> usize
@@ -29,16 +31,18 @@ pub fn place_word(l: ListIndex) -> usize
     PLACES_FROM as usize + l.0 as usize
 }
 
-// A block's address, in a notice memory of n words.
-pub fn is_block(n: usize, a: u32) -> bool
-    ensures { result ≡ is_block n a }
-{
-    (a % 32 == 0) & (32 <= a) & ((a / 4) as usize + BLOCK_SIZE <= n)
-}
-
-// 0, or a block's address.
+// 0, or a block's address, in a notice memory of n words. One range for both, as 0 is a multiple of 32 too: the scans of Receive RAM take
+// several words at a time.
 pub fn is_block_or_none(n: usize, a: u32) -> bool
     ensures { result ≡ is_block_or_none n a }
 {
-    (a == 0) | is_block(n, a)
+    let last = (n.min(0x4000_0000) * 4).saturating_sub(32) as u32;
+    (a % 32 == 0) & (a <= last)
+}
+
+// A block's address.
+pub fn is_block(n: usize, a: u32) -> bool
+    ensures { result ≡ is_block n a }
+{
+    (a != 0) & is_block_or_none(n, a)
 }

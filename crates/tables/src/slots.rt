@@ -1,4 +1,5 @@
 // The 64 slots, 16 words each from word 0 of Receive RAM on: these two alone read and store them (a reset clears the whole RAM).
+// One trait over slots and descriptors is no plainer: they share no field but the metadata, so its impls would hold these same lists.
 ghost use Rattle.std.specs.Prelude.{◌≡◌, ◌<◌, length};
 ghost use Rattle.rules.specs.Memory.{receive_size, slots_most};
 ghost use Rattle.rules.specs.Slots.{slot_at, store_slot};
@@ -8,6 +9,7 @@ use rules::sizes::SLOT_SIZE;
 use rules::{Slot, SlotIndex};
 
 // The sixteen words of a slot.
+#[tactic(auto, unfolding(rules::specs::Slots::slot_at))]
 pub fn slot_at(receive: &[u32], i: SlotIndex) -> Slot
     requires { (i.0 < slots_most) × (length receive.now ≡ receive_size) }
     ensures { result ≡ slot_at receive.now i }
@@ -31,6 +33,7 @@ pub fn slot_at(receive: &[u32], i: SlotIndex) -> Slot
 }
 
 // The sixteen words stored.
+#[tactic(auto, unfolding(rules::specs::Slots::store_slot))]
 pub fn store_slot(receive: &mut [u32], i: SlotIndex, v: Slot)
     requires { (i.0 < slots_most) × (length receive.old ≡ receive_size) }
     ensures { receive.new ≡ store_slot receive.old i v }
@@ -54,5 +57,5 @@ pub fn store_slot(receive: &mut [u32], i: SlotIndex, v: Slot)
         v.namea,
         v.nameb,
     ];
-    words::store(receive, SLOT_SIZE as usize * i.0 as usize, &row);
+    words::copy(receive, SLOT_SIZE as usize * i.0 as usize, &row);
 }

@@ -26,8 +26,8 @@ abbrev value : ℕ
 value = 0xC0030007
 
 -- Block 32 becomes the head of list 0, at word 1024 of Receive RAM; block 64 waits; a packet of zeros fails its header check.
-abbrev posting : Run
-posting =
+abbrev faulting : Run
+faulting =
     start
     ▸ calls (writes 0x080 0x1000)
     ▸ calls (writes 0x084 32)
@@ -37,7 +37,7 @@ posting =
 
 -- Then its notice is taken.
 abbrev taking : Run
-taking = posting ▸ calls (takes 0 (replicate 8 0))
+taking = faulting ▸ calls (takes 0 (replicate 8 0))
 
 -- What the fault's notice says.
 abbrev failed : Notice
@@ -72,8 +72,8 @@ pub record NotVacuous : Type 0 where
   pub gave : handed (begun value before) taking ≡ 32 ∷ 64 ∷ []
   pub answered : answers (begun value before) taking ≡ 9 ∷ []
   pub post : posted 0 (begun value before) taking ≡ failed ∷ []
-  pub walked : found (after (begun value before) posting) 0 ≡ failed ∷ []
-  pub stood : standing (after (begun value before) posting) ≡ 32 ∷ 64 ∷ []
+  pub walked : found (after (begun value before) faulting) 0 ≡ failed ∷ []
+  pub stood : standing (after (begun value before) faulting) ≡ 32 ∷ 64 ∷ []
   pub took : taken 0 (begun value before) taking ≡ failed ∷ []
   pub stands : standing (after (begun value before) taking) ≡ 32 ∷ 64 ∷ []
   pub words : Below (2 ^ 32) sender.send

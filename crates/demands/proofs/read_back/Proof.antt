@@ -34,6 +34,8 @@ use Rattle.demands.proofs.Packed.{Made, laid_formed, plain_length, control0_made
 use Rattle.demands.proofs.AnyFields.{any_read}
 use Rattle.demands.proofs.read_back.Statement.{statement}
 use Rattle.demands.proofs.read_back.Tie as tie
+use Rattle.std.specs.Prelude.{Result, Ok, Err}
+use Rattle.rules.specs.declared.Refusal.{Refusal}
 
 -- A payload that a packet can have.
 record Payload (p : List ℕ) : Type 0 where
@@ -184,12 +186,12 @@ formed_read m i words inside sized ok lt active =
     read m words inside i t.sized.send (own_node_lem t.ranges) (t.active i lt active)
 
 -- By a send call's verdict: the packet stands at the start of the room.
-sent_by : (m : Machine) (room : List ℕ) (v : Sending) → Below (2 ^ 32) m.send → Below 256 m.bytes → OfSend m (length room) v
+sent_by : (m : Machine) (room : List ℕ) (v : Result Sending Refusal) → Below (2 ^ 32) m.send → Below 256 m.bytes → OfSend m (length room) v
     → (act_send m room v).reply ≡ 0 → Sent m (act_send m room v)
 unfolding d f act_send over
-sent_by m room (Sending.No why) words inside h z = absurd (h.done z)
-sent_by m room (Sending.Waits i) words inside h z = absurd (omega arith)
-sent_by m room (Sending.Sends i) words inside h z =
+sent_by m room (Err why) words inside h z = absurd (h.done z)
+sent_by m room (Ok (Sending.Waits i)) words inside h z = absurd (omega arith)
+sent_by m room (Ok (Sending.Sends i)) words inside h z =
     let p : List ℕ = packet_from m i in
     let e : take (length p) (p ++ drop (length p) room) ≡ p = take-append_seam p (drop (length p) room) in
     record {
