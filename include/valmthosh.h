@@ -14,6 +14,7 @@
  *
  * Each call returns the reply's number. Any content is allowed, so all can begin as zeros: then write 0x80000000 to register 0x000, a reset.
  * A saved slice of another length, or an answer that is shorter, returns VALMTHOSH_SIZES with nothing written, not the answer either.
+ * Of a C library the archive asks for memset alone.
  */
 #ifndef VALMTHOSH_H
 #define VALMTHOSH_H

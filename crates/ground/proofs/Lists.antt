@@ -7,7 +7,7 @@ use native.Mathlib.Omega.{arith}
 use lib.ListN.{length, get_or, set, take, drop, length-append, length-drop, length-set, take-append-drop}
 use lib.Seq.{sets, sets-eq, get_or-set_same, get_or-set_other, get_or-take, get_or-drop, drop-drop, drop-append-le, drop-append_seam}
 use lib.Seq.{drop_at, take-add, take-append-le, take-append_seam, length-take-le, set_comm, set-set}
-use borrow.Rule.Slice.PartMut.{put_mid}
+use Rattle.std.proofs.lemmas.List.{take_more}
 use Rattle.ground.specs.Lists.{part, over, put_at}
 
 module _ {A : Type 0} where
@@ -73,10 +73,16 @@ module _ {A : Type 0} where
       ∙ append_assoc (take i l) vs (drop (i + length vs) l)
       ∙ ap (λ (x : List A). take i l ++ (vs ++ x)) (sym (drop-drop (length vs) i l))
 
-  -- What was written to the part from `at` on is a run of stores there.
-  pub part_written : (l vs ys : List A) (at k : ℕ) → at + length vs ≤ length l → k ≡ length vs → ys ≡ vs → put_mid at k l ys ≡ sets l at vs
-  unfolding put_at
-  part_written l vs ys at k h e f = rw (e, f) (sym (sets_put l at vs h))
+  -- One item more of a copy is stored.
+  pub copied_more : (l vs : List A) (at i : ℕ) (v : A) {m : List A} → m ≡ sets l at (take i vs) → i < length vs
+      → v ≡ get_or vs i v → set m (at + i) v ≡ sets l at (take (i + 1) vs)
+  copied_more l vs at i v e h f =
+      let b : List A = take i vs in
+      let k : length b ≡ i = length-take-le i vs (omega arith) in
+      ap (λ (x : List A). set x (at + i) v) e
+      ∙ ap (λ (x : ℕ). set (sets l at b) (at + x) v) (sym k)
+      ∙ sym (sets_append l at b (v ∷ []))
+      ∙ ap (sets l at) (sym (take_more vs i v h ∙ ap (λ (x : A). b ++ (x ∷ [])) (sym f)))
 
   -- A part has as many elements as are asked for.
   pub length_part : (a n : ℕ) (d : List A) → a + n ≤ length d → length (part a n d) ≡ n

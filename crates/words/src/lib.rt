@@ -22,13 +22,15 @@ pub fn put(bytes: &mut [u8], i: usize, word: u32)
     copy(bytes, i, &word.to_be_bytes());
 }
 
-// Items copied to place `at`.
-#[tactic(auto, using(ground::proofs::Lists::part_written))]
+// Items copied to place `at`. (One by one: `copy_from_slice` would have the archive ask for memmove from outside.)
+#[tactic(auto, using(ground::proofs::Lists::copied_more))]
 pub fn copy<T: Copy>(to: &mut [T], at: usize, from: &[T])
     requires { at + length from.now ≤ length to.old }
     ensures { to.new ≡ sets to.old at from.now }
 {
-    to[at..at + from.len()].copy_from_slice(from);
+    for (i, &item) in from.iter().enumerate() {
+        to[at + i] = item;
+    }
 }
 
 // The bytes of words copied to place `at`.
