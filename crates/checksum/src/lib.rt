@@ -43,8 +43,7 @@ pub fn from(start: u16, bytes: &[u8]) -> u16
     c
 }
 
-// The check of some bytes. (Not inlined: in a large caller its loop would lose a register.)
-#[inline(never)]
+// The check of some bytes.
 pub fn of(bytes: &[u8]) -> u16
     ensures { result ≡ check_of bytes.now }
 {

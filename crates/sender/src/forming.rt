@@ -1,5 +1,6 @@
 // The next packet of a descriptor, formed in the packet room.
-ghost use Rattle.std.specs.Prelude.{◌≡◌, ◌≤◌, length};
+ghost use Rattle.std.specs.Prelude.{◌≡◌, ◌≤◌, ◌<◌, ◌+◌, length};
+ghost use Rattle.ground.specs.Lists.{part};
 ghost use Rattle.rules.specs.Sending.{next_header, next_packet};
 ghost use Rattle.packet.specs.Packet.{Formed};
 ghost use Rattle.sender.specs.Steps.{Formable};
@@ -23,7 +24,19 @@ fn next_header(node: u32, d: Descriptor) -> Header
     }
 }
 
-// The packet, and its length. An empty payload has no place: control_pkt asks nothing of msg_address.
+// The n bytes of data memory from msg_address on. No bytes have no place: control_pkt asks nothing of msg_address.
+fn bytes_from(d: Descriptor, n: usize, bytes: &[u8]) -> &[u8]
+    requires { 0 < n → d.msgaddress + n ≤ length bytes.now }
+    ensures { result.now ≡ part d.msgaddress n bytes.now }
+{
+    if n == 0 {
+        return &bytes[..0];
+    }
+    let first = d.msgaddress as usize;
+    &bytes[first..first + n]
+}
+
+// The packet, and its length. (One call for each kind of payload, so that each can be inlined.)
 #[tactic(auto, using(ground::proofs::Choice::branches, ground::proofs::Bytes::row_length, ground::proofs::Lists::length_part), unfolding(rules::specs::Sending::next_packet, rules::specs::Sending::next_bytes))]
 pub(crate) fn next_packet(
     node: u32,
@@ -39,13 +52,10 @@ pub(crate) fn next_packet(
     let metadata = d.metadata;
     let n = choosing::next_payload(d) as usize;
     let direct_io = d.control1 / 0x8000_0000 % 2 == 1;
-    if n == 0 {
-        form::packet(room, header, metadata, &bytes[..0])
-    } else if direct_io {
+    if (n != 0) & direct_io {
         let first = (d.msgaddress / 4) as usize;
         form::packet(room, header, metadata, &send[first..first + n / 4])
     } else {
-        let first = d.msgaddress as usize;
-        form::packet(room, header, metadata, &bytes[first..first + n])
+        form::packet(room, header, metadata, bytes_from(d, n, bytes))
     }
 }
