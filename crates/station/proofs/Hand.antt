@@ -10,7 +10,6 @@ use lib.Seq.{sets, length-sets, drop_at, take-take}
 use Rattle.ground.specs.Lists.{part}
 use Rattle.ground.proofs.Choice.{arm_yes, arm_no, pick_holds}
 use Rattle.ground.proofs.Lists.{part_sets, part_add, length_part}
-use Rattle.rules.specs.declared.Saved.{Saved}
 use Rattle.rules.specs.Memory.{Machine, machine}
 use Rattle.station.specs.declared.state.Station.{Station}
 use Rattle.rules.specs.Station.{record_size, lines_from}

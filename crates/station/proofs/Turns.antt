@@ -7,12 +7,15 @@ use lib.ListN.{length, replicate, length-append, length-drop, take, drop, take-a
 use lib.Seq.{length-take-le, take-length}
 use Rattle.ground.specs.Lists.{part}
 use Rattle.ground.proofs.Lists.{length_part, part_add}
-use Rattle.rules.specs.Memory.{send_size, receive_size, data_most, notices_most}
+use Rattle.rules.specs.Memory.{Machine, machine, send_size, receive_size, data_most, notices_most}
+use Rattle.rules.specs.Saved.{reset_saved}
+use Rattle.rules.specs.Registers.{pcsr0_number}
+use Rattle.rules.specs.Calls.{perform, writes}
 use Rattle.rules.specs.Station.{record_size, zero_machine, first_machine, station}
 use Rattle.records.specs.Records.{Opens}
 use Rattle.records.proofs.Rows.{in_parts}
 use Rattle.station.specs.declared.state.Station.{Station}
-use Rattle.station.specs.Turns.{answered_to, answered_of, lines_of, waiting_in, came_in, hand_in, machine_in, Answers, Held, held, Begun, gone_on, lines_now, Reads, none, ◌▸◌, read, after, written, Going, SoFar, Turnable, Turned, InTurns}
+use Rattle.station.specs.Turns.{answered_to, answered_of, lines_of, waiting_in, came_in, hand_in, machine_in, Answers, Held, held, Zeros, Begun, gone_on, lines_now, Reads, none, ◌▸◌, read, after, written, Going, SoFar, Turnable, Turned, InTurns}
 use Rattle.station.proofs.Hand.{at_the_end, before_the_end, part_rest}
 
 -- ---- the lines of a turn
@@ -141,6 +144,22 @@ pub begun : {s : Station}
 unfolding first_machine zero_machine
 begun {s} o zero unread =
     record { opens = λ input. λ i. record { machine = o.reset i; waits = waiting_in input (zero i) }; nothing = zero; none = unread }
+
+-- So has a station whose memories were zeros, once the reset is done in them.
+pub begun_in : {z s : Station} → Zeros z → Opens z.send z.receive z.bytes z.notices (machine_in s) → s.kept ≡ 0 → s.count ≡ 0 → Begun s
+begun_in {z} {s} zeros o kept count =
+    let left : List ℕ → List ℕ → List ℕ → List ℕ → Machine =
+    λ send. λ receive. λ bytes. λ notices. (perform (writes pcsr0_number 0x80000000) (machine (reset_saved 0) send receive bytes notices)).machine in
+    begun
+    (record {
+      reset = o.reset
+          ∙ ap (λ (l : List ℕ). left l z.receive z.bytes z.notices) zeros.send
+          ∙ ap (λ (l : List ℕ). left (replicate send_size 0) l z.bytes z.notices) zeros.receive
+          ∙ ap (λ (l : List ℕ). left (replicate send_size 0) (replicate receive_size 0) l z.notices) zeros.bytes
+          ∙ ap (λ (l : List ℕ). left (replicate send_size 0) (replicate receive_size 0) (replicate data_most 0) l) zeros.notices;
+    })
+    kept
+    count
 
 -- So it has what no turns left.
 pub at_first : {s : Station} → Begun s → SoFar (held s) s.count

@@ -1,9 +1,9 @@
 -- What a turn of the station makes of bytes that came, and what its turns write together. Assumes nothing.
 -- The reads and writes promise nothing of the system's bytes: which bytes came, and that the lines went out, no contract can say.
-use Rattle.std.specs.Prelude.{ℕ, ◌+◌, ◌-◌, ◌*◌, ◌/◌, ◌%◌, ◌^◌, ◌<◌, ◌≤◌, ◌≡◌, List, [], ◌++◌, eqb, length, take, drop}
+use Rattle.std.specs.Prelude.{ℕ, ◌+◌, ◌-◌, ◌*◌, ◌/◌, ◌%◌, ◌^◌, ◌<◌, ◌≤◌, ◌≡◌, List, [], ◌++◌, eqb, length, take, drop, replicate}
 use Rattle.ground.specs.Choice.{pick}
 use Rattle.ground.specs.Lists.{part}
-use Rattle.rules.specs.Memory.{Machine, machine}
+use Rattle.rules.specs.Memory.{Machine, machine, send_size, receive_size, data_most, notices_most}
 use Rattle.rules.specs.Station.{record_size, first_machine, lines_from, station}
 use Rattle.records.specs.Records.{machine_after}
 use Rattle.station.specs.declared.state.Station.{Station}
@@ -70,6 +70,13 @@ held s = record { machine = machine_in s; waits = waiting_in s.input s.kept }
 -- Before the first turn: the machine after the opening reset, and no byte waits.
 abbrev pub opened : Held
 opened = record { machine = first_machine; waits = [] }
+
+-- Memories of zeros.
+pub record Zeros (s : Station) : Type 0 where
+  pub send : s.send ≡ replicate send_size 0
+  pub receive : s.receive ≡ replicate receive_size 0
+  pub bytes : s.bytes ≡ replicate data_most 0
+  pub notices : s.notices ≡ replicate notices_most 0
 
 -- The station has it, whatever its input's room holds.
 pub record Begun (s : Station) : Type 0 where

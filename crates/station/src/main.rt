@@ -10,7 +10,8 @@ use state::Station;
 
 fn main(rt: HostRuntime) {
     let mut from = rt.stdin();
-    let mut station = Station::begin();
+    let mut station = Station::zeros();
+    station.begin();
     // Every loop has to be proved to end: so many bytes that no input has them. (No `for`: that bound also keeps the count from wrapping.)
     while station.count < 0x8000_0000_0000_0000 {
         let n = station.read_on(&mut from);

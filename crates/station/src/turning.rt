@@ -1,34 +1,46 @@
 // The station between its reads and writes: how it begins, what a read puts in its room, and what a turn makes of bytes that came.
 ghost use Rattle.std.specs.Prelude.{◌≡◌, ◌+◌, ◌≤◌, length, take};
 ghost use Rattle.rules.specs.Station.{record_size};
-ghost use Rattle.station.specs.Turns.{Begun, held, came_in, Turnable, Turned, InTurns};
+ghost use Rattle.station.specs.Turns.{Zeros, Begun, held, came_in, Turnable, Turned, InTurns};
 
 use crate::state::Station;
 use lines::LINE_MOST;
+use rules::Saved;
 use rules::sizes::{DATA_MOST, NOTICES_MOST, RECEIVE_SIZE, RECORD_SIZE, SEND_SIZE};
 use std::io::Read;
 
 impl Station {
-    // The opening reset over memories of zeros; no byte waits, and none was read.
-    pub(crate) fn begin() -> Self
-        ensures { Begun result }
+    // Memories of zeros. (`begin` goes on from here in place: a station handed back by it would be copied once more.)
+    pub(crate) fn zeros() -> Self
+        ensures { Zeros result }
     {
-        let mut send = [0u32; SEND_SIZE];
-        let mut receive = [0u32; RECEIVE_SIZE];
-        let bytes = [0u8; DATA_MOST];
-        let mut notices = [0u32; NOTICES_MOST];
-        let saved = records::open(&mut send, &mut receive, &bytes, &mut notices);
         Station {
-            saved,
-            send,
-            receive,
-            bytes,
-            notices,
+            saved: Saved::default(),
+            send: [0; SEND_SIZE],
+            receive: [0; RECEIVE_SIZE],
+            bytes: [0; DATA_MOST],
+            notices: [0; NOTICES_MOST],
             input: [0; 256 * RECORD_SIZE],
             out: [0; 256 * LINE_MOST],
             count: 0,
             kept: 0,
         }
+    }
+
+    // The opening reset over memories of zeros; no byte waits, and none was read.
+    pub(crate) fn begin(&mut self)
+        requires { Zeros self.old }
+        ensures { Begun self.new }
+    {
+        self.saved = records::open(
+            &mut self.send,
+            &mut self.receive,
+            &self.bytes,
+            &mut self.notices,
+        );
+        // `Zeros` speaks of the memories alone.
+        self.kept = 0;
+        self.count = 0;
     }
 
     // Reads what is at hand behind the input's first record, where bytes may wait, and says how many bytes came: 0 at the end of the input,

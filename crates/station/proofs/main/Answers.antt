@@ -12,7 +12,7 @@ some_came c =
     omega (arith, length_part record_size c.read_on-n.result c.read_on-n.new.self.input c.read_on-n.ensures.result_in_bounds, c.if-n-eq0.false)
 
 pub loop-station-init : goal.loop-station-init
-loop-station-init c = at_first c.begin-station.ensures
+loop-station-init c = at_first c.begin.ensures
 
 -- A read leaves what the turns before left.
 pub turn-next-requires : goal.turn-next-requires
