@@ -33,15 +33,16 @@ impl<'a> Contents<'a> {
         read_words(from, self.room, page)
     }
 
-    // The same. (Two, since each step of theirs is another function's.)
+    // The same. (Two, since each step of theirs is another function's.) Each part is written, whatever became of those before it: `and` works
+    // out both.
     pub(crate) fn write(&self, to: &mut impl Write, page: &mut Page) -> io::Result<()> {
-        write_words(to, &self.saved, page)?;
-        write_words(to, self.send, page)?;
-        write_words(to, self.receive, page)?;
-        write_bytes(to, self.data)?;
-        write_words(to, self.notices, page)?;
-        write_bytes(to, self.packet)?;
-        write_words(to, self.room, page)
+        write_words(to, &self.saved, page)
+            .and(write_words(to, self.send, page))
+            .and(write_words(to, self.receive, page))
+            .and(write_bytes(to, self.data))
+            .and(write_words(to, self.notices, page))
+            .and(write_bytes(to, self.packet))
+            .and(write_words(to, self.room, page))
     }
 
     // The call of a kind: write, read, receive, send, take; any other is an unknown call. The answer's three words. (A kind is a number of the

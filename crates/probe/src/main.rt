@@ -21,8 +21,9 @@ fn answer_case(
     let mut contents = rooms.cut(&head)?;
     contents.read(from, page).ok()?;
     let answer = contents.call(head[0], head[1], head[2]);
-    write_words(to, &answer, page).ok()?;
-    contents.write(to, page).ok()
+    write_words(to, &answer, page)
+        .and(contents.write(to, page))
+        .ok()
 }
 
 fn main(rt: HostRuntime) {
