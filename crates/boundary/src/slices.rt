@@ -76,7 +76,8 @@ pub fn store(w: &mut [u32], s: Saved)
     ]);
 }
 
-// The state and the answer go into the lent words; the reply's number.
+// The state and the answer go into the lent words; the reply's number. (Inlined: what is copied is then known to be so few words.)
+#[inline]
 pub(crate) fn finish(saved: &mut [u32], answer: &mut [u32], a: Answer) -> u32
     requires { Writable saved.old answer.old }
     ensures { Ends a answer.old result saved.new answer.new }
